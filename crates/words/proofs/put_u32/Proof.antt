@@ -1,0 +1,20 @@
+-- `words::put_u32` meets its contract.
+-- Assumes nothing.
+use mathlib.Core.Path.{sym}
+use denote.Ref.{now}
+use Rattle.words.specs.Num.{little}
+use Rattle.words.specs.PutLaws.{past, halves}
+use borrow.Author.Needs.{needs}
+use Rattle.words.proofs.put_u32.Statement.{statement}
+use Rattle.words.proofs.put_u32.Tie as tie
+
+returns : tie.Need-returns
+returns c =
+    let a = c .before .before .before .before .before .before .before .before .before .before .args in
+    halves little 2 2 (now (a .bytes)) (a .at) (a .v) (c .before .before .before .before .before .before .put-u16 .ensures) (c .before .before .put-u162 .ensures)
+
+returns-2 : tie.Need-returns-2
+returns-2 c = let a = c .before .before .args in sym (past little 4 (now (a .bytes)) (a .at) (a .v) (c .if1 .left))
+
+pub put-u32-spec : {M : Type 1} → statement M
+put-u32-spec = tie.close (tie.spec (λ c. search needs) (λ c κs. search needs) (λ c. search needs) (λ c. search needs) (λ c κs. search needs) (λ c. search needs) returns returns-2)
