@@ -1,0 +1,91 @@
+-- One turn of each walk as the code's loops meet it: with n turns left and then n - 1, or at an index k and then k + 1.
+use Prim.Native.Nat.{ℕ, zero, suc, _+_, _-_, _*_, _≤_, _<_}
+use mathlib.Core.Path.{_≡_, refl, sym, ap, _∙_}
+use mathlib.Core.Bool.{Bool, true, false, cond}
+use mathlib.Core.List.{List, [], _∷_}
+use mathlib.Core.Option.{Option, none, some}
+use native.Mathlib.Omega.{arith}
+use native.Mathlib.Nat.{not-suc-le-zero}
+use native.Mathlib.Numerals.{sub-one}
+use lib.ListN.{length, getD, drop}
+use lib.Seq.{drop-cons}
+use lib.Dec.{eqb}
+use Rattle.rules.specs.Kinds.{ARRAY, isModifier, sizedByRef}
+use Rattle.rules.specs.Limits.{maxResolveDepth, maxSpecLen}
+use Rattle.kinds.specs.declared.Entry.{Entry}
+use Rattle.kinds.specs.Types.{Ty}
+use Rattle.view.specs.View.{View}
+use Rattle.view.specs.Places.{noEntry}
+use Rattle.rules.specs.declared.Resolved.the-variants.{At}
+use Rattle.rules.specs.declared.Why.the-variants.{KindWithoutSize}
+use Rattle.rules.specs.declared.Sized.the-variants.{Unsized}
+use Rattle.rules.specs.declared.Compat.{Compat}
+use Rattle.rules.specs.declared.Compat.the-variants.{Broken}
+use Rattle.rules.specs.declared.Search.{Search}
+use Rattle.rules.specs.declared.Search.the-variants.{Found, Failed}
+use Rattle.rules.specs.declared.Event.{Event}
+use Rattle.rules.specs.declared.Matches.{Matches}
+use Rattle.rules.specs.declared.Refusal.the-variants.{MaximumNesting}
+use Rattle.rules.specs.Fields.{entryAt, memberBits}
+use Rattle.rules.specs.Refusal.{Reply, bind}
+use Rattle.rules.specs.Types.{chain, resolve, resolved, ownSize, times, elements, isEmpty, sameText, sameFlavourless, andThen, both, meet, pairs, typesWithin, meetFields, fieldsWithin}
+use Rattle.rules.specs.Access.{Walk, localStep, localSteps}
+use Rattle.rules.specs.Matching.{variantNamed, orElse, grown, decided, Sought, atMember, level, membersOf, search}
+use Rattle.rules.specs.Record.{turn, over}
+
+-- A definition's clause for suc, at the code's n and n - 1
+peel {ℓ} : {A : Type ℓ} (f g : ℕ → A) → ((k : ℕ) → f (suc k) ≡ g k) → (n : ℕ) → 0 < n → f n ≡ g (n - 1)
+peel f g e zero h = absurd (not-suc-le-zero h)
+peel f g e (suc k) h = e k ∙ ap g (sym (sub-one (suc k)))
+
+pub chain-turn : (typ : ℕ → Ty) (n i : ℕ) → 0 < n → chain typ n i ≡ cond (isModifier (typ i .kind)) (chain typ (n - 1) (typ i .ref)) (At i)
+unfolding chain
+chain-turn typ n i h = peel (λ j. chain typ j i) _ (λ j. refl) n h
+
+pub elements-turn : (typ : ℕ → Ty) (n c i : ℕ) → 0 < n → elements typ n c i ≡ times i c (ownSize (typ i))
+    (cond (eqb (typ i .kind) ARRAY) (elements typ (n - 1) (typ i .extra) (typ i .ref))
+    (cond (sizedByRef (typ i .kind)) (elements typ (n - 1) c (typ i .ref)) (Unsized KindWithoutSize i)))
+unfolding elements
+elements-turn typ n c i h = peel (λ j. elements typ j c i) _ (λ j. refl) n h
+
+pub types-turn : (L T : ℕ → Ty) (left own a b : ℕ) → 0 < left → typesWithin L T left own a b
+    ≡ cond (eqb own 0) Broken (both (meet (typesWithin L T (left - 1) (own - 1)) (typesWithin L T (left - 1) maxResolveDepth)) L T (resolve L a) (resolve T b))
+unfolding typesWithin
+types-turn L T left own a b h = peel (λ j. typesWithin L T j own a b) _ (λ j. refl) left h
+
+pub fields-turn : (L T : View) (own a b : ℕ) → 0 < own → fieldsWithin L T own a b
+    ≡ both (meetFields (fieldsWithin L T (own - 1)) (L .text) (T .text)) (L .typ) (T .typ) (resolve (L .typ) a) (resolve (T .typ) b)
+unfolding fieldsWithin
+fields-turn L T own a b h = peel (λ j. fieldsWithin L T j a b) _ (λ j. refl) own h
+
+pub search-turn : (fits : ℕ → Compat) (T : View) (q : Sought) (levels i : ℕ) → 0 < levels
+    → search fits T q levels i ≡ membersOf (search fits T q (levels - 1)) fits T q (resolve (T .typ) i)
+unfolding search
+search-turn fits T q levels i h = peel (λ j. search fits T q j i) _ (λ j. refl) levels h
+
+pub over-turn : (f : ℕ → Event) (s : Matches) (i n : ℕ) → 0 < n → over f s i n ≡ over f (turn s i (f i)) (suc i) (n - 1)
+unfolding over
+over-turn f s i n h = peel (λ j. over f s i j) _ (λ j. refl) n h
+
+-- The parameters of two functions from index k on
+pub pairs-turn : (check : ℕ → ℕ → Compat) (l t : Ty) (k : ℕ) → k < length (l .entries) → k < length (t .entries)
+    → pairs check (drop k (l .entries)) (drop k (t .entries))
+    ≡ andThen (check (entryAt l k .typ) (entryAt t k .typ)) (pairs check (drop (suc k) (l .entries)) (drop (suc k) (t .entries)))
+unfolding pairs
+pairs-turn check l t k h g = rw (drop-cons (l .entries) k noEntry h, drop-cons (t .entries) k noEntry g)
+
+pub variant-turn : (text : ℕ → List ℕ) (name : List ℕ) (t : Ty) (k : ℕ) → k < length (t .entries) → variantNamed text name (drop k (t .entries))
+    ≡ cond (sameFlavourless name (text (entryAt t k .name))) (some (entryAt t k)) (variantNamed text name (drop (suc k) (t .entries)))
+unfolding variantNamed
+variant-turn text name t k h = rw (drop-cons (t .entries) k noEntry h)
+
+-- The members of a type from index k on
+pub level-turn : (down : ℕ → Search) (fits : ℕ → Compat) (text : ℕ → List ℕ) (q : Sought) (i : ℕ) (t : Ty) (k : ℕ) → k < length (t .entries)
+    → level down fits text q i t k (drop k (t .entries))
+    ≡ cond (eqb (q .from .parts) maxSpecLen) (Failed (MaximumNesting (q .candidate)))
+    (cond (isEmpty (text (entryAt t k .name))) (orElse (grown (memberBits t (entryAt t k)) (down (entryAt t k .typ))) (level down fits text q i t (suc k) (drop (suc k) (t .entries))))
+    (cond (sameText (q .name) (text (entryAt t k .name)))
+    (decided (fits (entryAt t k .typ)) (grown (memberBits t (entryAt t k)) (Found (atMember (q .from) i k (entryAt t k .typ)))))
+    (level down fits text q i t (suc k) (drop (suc k) (t .entries)))))
+unfolding level
+level-turn down fits text q i t k h = rw (drop-cons (t .entries) k noEntry h)
