@@ -12,3 +12,4 @@ pub mod Record
 pub mod List
 pub mod Report
 pub mod Turns
+pub mod Call

@@ -144,3 +144,26 @@ pub enum Answer {
     Poisoned,
     Refused(Refusal),
 }
+
+// Which of the two BTFs.
+pub enum Which {
+    Local,
+    Target,
+}
+
+// How a call ends (section 3): every record applied; a bad BTF with the id of its first fault; a BTF over a limit; a lent
+// table too short, with the entries needed; a record refused, with its number in the list; bytes of a wrong shape.
+pub enum Ending {
+    Done,
+    BadBtf(Which, u32),
+    OverLimit(Which),
+    TableShort(Which, u32),
+    Stopped(u32, Refusal),
+    Misshapen,
+}
+
+// What a call says back: how it ended, and how many records were applied before.
+pub struct Said {
+    pub ending: Ending,
+    pub applied: u32,
+}
