@@ -158,12 +158,12 @@ pub enum Ending {
     BadBtf(Which, u32),
     OverLimit(Which),
     TableShort(Which, u32),
-    Stopped(u32, Refusal),
+    Stopped(u64, Refusal),
     Misshapen,
 }
 
 // What a call says back: how it ended, and how many records were applied before.
 pub struct Said {
     pub ending: Ending,
-    pub applied: u32,
+    pub applied: u64,
 }
