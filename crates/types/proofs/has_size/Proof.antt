@@ -1,0 +1,34 @@
+-- `types::has_size` meets its contract.
+-- Assumes nothing.
+use mathlib.Core.Path.{sym}
+use borrow.Author.Tests.{eq-eqb, ne-eqb}
+use borrow.Author.Needs.{needs}
+use Rattle.types.proofs.has_size.Statement.{statement}
+use Rattle.types.proofs.has_size.Tie as tie
+
+returns : tie.Need-returns
+returns c = sym (rw (eq-eqb _ _ (c .if1 .taken)))
+
+returns-2 : tie.Need-returns-2
+returns-2 c = sym (rw (ne-eqb _ _ (c .before .before .if1 .left), ← (c .before .is-composite .ensures), (c .if2 .taken)))
+
+returns-3 : tie.Need-returns-3
+returns-3 c = sym (rw (ne-eqb _ _ (c .before .before .before .before .if1 .left), ← (c .before .before .before .is-composite .ensures), (c .before .before .if2 .left), ← (c .before .is-enum .ensures), (c .if3 .taken)))
+
+returns-4 : tie.Need-returns-4
+returns-4 c = sym (rw (ne-eqb _ _ (c .before .before .before .before .before .if1 .left), ← (c .before .before .before .before .is-composite .ensures), (c .before .before .before .if2 .left), ← (c .before .before .is-enum .ensures), (c .before .if3 .left), eq-eqb _ _ (c .if4 .taken)))
+
+returns-5 : tie.Need-returns-5
+returns-5 c = sym (rw (ne-eqb _ _ (c .before .before .before .before .before .if1 .left), ← (c .before .before .before .before .is-composite .ensures), (c .before .before .before .if2 .left), ← (c .before .before .is-enum .ensures), (c .before .if3 .left), ne-eqb _ _ (c .if4 .left)))
+
+pub has-size-spec : {M : Type 1} → statement M
+has-size-spec =
+    tie.close
+    (tie.spec
+    (λ c κs. search needs)
+    (λ c κs. search needs)
+    returns
+    returns-2
+    returns-3
+    returns-4
+    returns-5)

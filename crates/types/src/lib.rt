@@ -1,0 +1,155 @@
+// Questions about one type and about two, by id: where a chain of modifiers ends, how many bytes a type has, whether names
+// are the same but for flavours, whether two types or two fields' types are compatible. Any bytes, any table get an answer.
+use btf::Btf;
+use rules::Resolved;
+use rules::Sized;
+use rules::Why;
+use view::extra_of;
+use view::kind_of;
+use view::ref_of;
+use view::size_of;
+ghost use mathlib.Core.Path.{_≡_};
+ghost use mathlib.Core.Bool.{cond, _||_};
+ghost use lib.Dec.{eqb};
+ghost use Rattle.view.specs.View.{tabView};
+ghost use Rattle.rules.specs.Kinds.{ARRAY, isModifier, isComposite, isEnum, hasSize, sizedByRef};
+ghost use Rattle.rules.specs.Types.{resolve, product, sizeOf};
+
+const BTF_KIND_INT: u32 = 1;
+
+const BTF_KIND_PTR: u32 = 2;
+
+const BTF_KIND_ARRAY: u32 = 3;
+
+const BTF_KIND_STRUCT: u32 = 4;
+
+const BTF_KIND_UNION: u32 = 5;
+
+const BTF_KIND_ENUM: u32 = 6;
+
+const BTF_KIND_TYPEDEF: u32 = 8;
+
+const BTF_KIND_RESTRICT: u32 = 11;
+
+const BTF_KIND_FUNC_PROTO: u32 = 13;
+
+const BTF_KIND_VAR: u32 = 14;
+
+const BTF_KIND_DATASEC: u32 = 15;
+
+const BTF_KIND_FLOAT: u32 = 16;
+
+const BTF_KIND_DECL_TAG: u32 = 17;
+
+const BTF_KIND_TYPE_TAG: u32 = 18;
+
+const BTF_KIND_ENUM64: u32 = 19;
+
+// How many types a loop looks at.
+const MAX_RESOLVE_DEPTH: u32 = 32;
+
+const POINTER_SIZE: u32 = 8;
+
+// The first size that is too big.
+const SIZE_LIMIT: u64 = 4294967296;
+
+// TYPEDEF, VOLATILE, CONST, RESTRICT and TYPE_TAG
+fn is_modifier(kind: u32) -> bool
+    ensures { λ r. ⌜ r ≡ isModifier kind ⌝ }
+{
+    kind == BTF_KIND_TYPE_TAG || (BTF_KIND_TYPEDEF <= kind && kind <= BTF_KIND_RESTRICT)
+}
+
+fn is_composite(kind: u32) -> bool
+    ensures { λ r. ⌜ r ≡ isComposite kind ⌝ }
+{
+    kind == BTF_KIND_STRUCT || kind == BTF_KIND_UNION
+}
+
+fn is_enum(kind: u32) -> bool
+    ensures { λ r. ⌜ r ≡ isEnum kind ⌝ }
+{
+    kind == BTF_KIND_ENUM || kind == BTF_KIND_ENUM64
+}
+
+// Whether a kind's third word is its size.
+fn has_size(kind: u32) -> bool
+    ensures { λ r. ⌜ r ≡ hasSize kind ⌝ }
+{
+    kind == BTF_KIND_INT
+        || (is_composite(kind)
+            || (is_enum(kind) || (kind == BTF_KIND_DATASEC || kind == BTF_KIND_FLOAT)))
+}
+
+// Whether a kind's size comes from the type that it refers to.
+fn sized_by_ref(kind: u32) -> bool
+    ensures { λ r. ⌜ r ≡ (eqb kind ARRAY || sizedByRef kind) ⌝ }
+{
+    kind == BTF_KIND_ARRAY
+        || (is_modifier(kind)
+            || (kind == BTF_KIND_FUNC_PROTO || (kind == BTF_KIND_VAR || kind == BTF_KIND_DECL_TAG)))
+}
+
+// The type that an id names, whatever qualifies it.
+pub fn resolve_type(bytes: &[u8], table: &[u32], btf: Btf, id: u32) -> Resolved
+    ensures { λ r. ⌜ r ≡ resolve (tabView (now (bytes .entry)) (now (table .entry)) btf .typ) id ⌝ }
+{
+    let mut at = id;
+    let mut left = MAX_RESOLVE_DEPTH;
+    while left > 0 {
+        if !is_modifier(kind_of(bytes, table, btf, at)) {
+            return Resolved::At(at);
+        }
+        at = ref_of(bytes, table, btf, at);
+        left -= 1;
+    }
+    Resolved::Endless
+}
+
+// n times a size, met at an id.
+fn product_of(id: u32, n: u32, size: u32) -> Sized
+    ensures { λ r. ⌜ r ≡ product id n size ⌝ }
+{
+    let all = (n as u64) * (size as u64);
+    if all < SIZE_LIMIT {
+        Sized::Bytes(all as u32)
+    } else {
+        Sized::Unsized(Why::ProductTooBig, id)
+    }
+}
+
+// How many elements count behind a type: an array's own, whatever counted before it.
+fn elements_of(bytes: &[u8], table: &[u32], btf: Btf, id: u32, kind: u32, n: u32) -> u32
+    ensures { λ r. ⌜ r ≡ cond (eqb kind ARRAY) (tabView (now (bytes .entry)) (now (table .entry)) btf .typ id .extra) n ⌝ }
+{
+    if kind == BTF_KIND_ARRAY {
+        extra_of(bytes, table, btf, id)
+    } else {
+        n
+    }
+}
+
+// How many bytes a type has; or why it has no size, and the id where that showed.
+pub fn type_size(bytes: &[u8], table: &[u32], btf: Btf, id: u32) -> Sized
+    ensures { λ r. ⌜ r ≡ sizeOf (tabView (now (bytes .entry)) (now (table .entry)) btf .typ) id ⌝ }
+{
+    let mut at = id;
+    let mut n: u32 = 1;
+    let mut left = MAX_RESOLVE_DEPTH;
+    while left > 0 {
+        let kind = kind_of(bytes, table, btf, at);
+        if kind == BTF_KIND_PTR {
+            return product_of(at, n, POINTER_SIZE);
+        }
+        if has_size(kind) {
+            return product_of(at, n, size_of(bytes, table, btf, at));
+        }
+        if !sized_by_ref(kind) {
+            return Sized::Unsized(Why::KindWithoutSize, at);
+        }
+        n = elements_of(bytes, table, btf, at, kind, n);
+        at = ref_of(bytes, table, btf, at);
+        left -= 1;
+    }
+    Sized::Unsized(Why::ChainTooLong, at)
+}
