@@ -88,13 +88,13 @@ absent k =
 -- The target's value, from what was kept
 unfoldable pub conclude : ℕ → Matches → Reply Worth
 conclude k Unmatched = absent k
-conclude k (Kept b v c zero) = ok v
-conclude k (Kept b v c (suc n)) = refused (Conflict c (suc n))
+conclude k (Kept b v c n) = cond (eqb n 0) (ok v) (refused (Conflict c n))
 conclude k (Halted r) = refused r
 
--- Both pointers, or both unsigned INTs
-abbrev pub resizable : Ty → Ty → Bool
-resizable l t = (eqb (l .kind) PTR && eqb (t .kind) PTR) || (eqb (l .kind) INT && eqb (t .kind) INT && not (intSigned l) && not (intSigned t))
+-- Of one kind: pointers, or unsigned INTs
+unfoldable pub resizable : Ty → Ty → Bool
+resizable l t =
+    cond (eqb (t .kind) (l .kind)) (cond (eqb (l .kind) PTR) true (cond (eqb (l .kind) INT) (not (intSigned l) && not (intSigned t)) false)) false
 
 -- A size of s bytes, between a local and a target type, where both are there
 abbrev pub between : (ℕ → Ty) → (ℕ → Ty) → ℕ → Typing → Typing → Resize
