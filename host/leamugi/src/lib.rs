@@ -1,0 +1,231 @@
+//! CO-RE relocation of one function's eBPF instructions, by a library whose every function is proved.
+//!
+//! Read a target once, relocate many functions against it:
+//!
+//! ```
+//! use leamugi::Btf;
+//!
+//! # fn main() -> Result<(), Box<dyn std::error::Error>> {
+//! # let root = concat!(env!("CARGO_MANIFEST_DIR"), "/../../demo/");
+//! let local = Btf::read(std::fs::read(format!("{root}local.btf"))?)?;
+//! let target = Btf::read(std::fs::read(format!("{root}target.btf"))?)?;
+//! let mut insns = std::fs::read(format!("{root}insns.bin"))?;
+//! let records = std::fs::read(format!("{root}records.bin"))?;
+//! let applied = leamugi::relocate(&local, &target, &mut insns, 0, &records)?;
+//! assert_eq!(applied, 6);
+//! # Ok(())
+//! # }
+//! ```
+//!
+//! A refusal says what and where:
+//!
+//! ```
+//! let refused = leamugi::Btf::read(vec![0; 24]).unwrap_err();
+//! assert_eq!(refused.number(), 1);
+//! assert_eq!(refused.to_string(), "bad BTF: its header or its strings are not as the format says");
+//! ```
+#![deny(missing_docs)]
+
+mod ffi;
+mod refusal;
+
+pub use refusal::{BtfRefusal, Refused, Why};
+
+/// A BTF that was read and accepted: its bytes and the table of where its types begin.
+#[derive(Clone, Debug)]
+pub struct Btf {
+    bytes: Vec<u8>,
+    table: Vec<u32>,
+    numbers: [u64; ffi::SAID],
+}
+
+/// What stands at a type id.
+#[derive(Clone, Copy, Debug, PartialEq, Eq)]
+pub struct Type<'a> {
+    /// The kind's number in the kernel's BTF document, 0 for void.
+    pub kind: u32,
+    /// The name's bytes, empty where there is none.
+    pub name: &'a [u8],
+    /// The size in bytes of a kind that has one, else 0.
+    pub size: u64,
+    /// The type referred to: a pointee, a modified type, an array's element; else 0.
+    pub referred: u32,
+    /// How many members, variants, parameters or variables there are.
+    pub entries: u64,
+}
+
+/// What a type lists: a member, a variant, a parameter, a variable.
+#[derive(Clone, Copy, Debug, PartialEq, Eq)]
+pub struct Entry<'a> {
+    /// The name's bytes, empty where there is none.
+    pub name: &'a [u8],
+    /// Its type's id, 0 where it has none.
+    pub typ: u32,
+    /// A member's offset word, or the low half of a variant's value.
+    pub low: u32,
+    /// The high half of an ENUM64's variant's value.
+    pub high: u32,
+}
+
+/// BTF_KIND_ARRAY, and TYPEDEF, VOLATILE, CONST, RESTRICT, TYPE_TAG.
+const ARRAY: u32 = 3;
+const MODIFIERS: [u32; 5] = [8, 9, 10, 11, 18];
+
+impl Btf {
+    /// Reads bytes as a BTF, and keeps them.
+    ///
+    /// # Errors
+    ///
+    /// Bytes that document 01's section 4 refuses, or that are over a limit.
+    pub fn read(bytes: Vec<u8>) -> Result<Btf, BtfRefusal> {
+        let mut table = Vec::new();
+        let mut said = ffi::read(&bytes, &mut table);
+        if said.number == 3 {
+            // The table's length is what the first call asked for: types and one.
+            table = vec![0; said.numbers[0] as usize];
+            said = ffi::read(&bytes, &mut table);
+        }
+        match said.number {
+            0 => Ok(Btf { bytes, table, numbers: said.numbers }),
+            2 => Err(BtfRefusal::OverLimit),
+            _ => Err(BtfRefusal::Bad { id: said.numbers[0] as u32 }),
+        }
+    }
+
+    /// How many types there are beside void.
+    pub fn types(&self) -> u32 {
+        self.numbers[4] as u32
+    }
+
+    /// How many bytes the strings have.
+    pub fn strings(&self) -> u64 {
+        self.numbers[3]
+    }
+
+    /// The bytes that were read.
+    pub fn bytes(&self) -> &[u8] {
+        &self.bytes
+    }
+
+    /// What stands at an id; void at 0 and past the last.
+    pub fn type_at(&self, id: u32) -> Type<'_> {
+        let said = ffi::type_at(&self.lent(), id);
+        let [start, length, size, referred, entries] = said.numbers;
+        Type { kind: said.number, name: &self.bytes[start as usize..(start + length) as usize], size, referred: referred as u32, entries }
+    }
+
+    /// The name of the type at an id, as text.
+    pub fn name(&self, id: u32) -> String {
+        String::from_utf8_lossy(self.type_at(id).name).into_owned()
+    }
+
+    /// The k-th member, variant, parameter or variable of the type at an id; zeros where there is none.
+    pub fn entry_at(&self, id: u32, k: u32) -> Entry<'_> {
+        let said = ffi::entry_at(&self.lent(), id, k);
+        let [start, length, low, high, _] = said.numbers;
+        Entry { name: &self.bytes[start as usize..(start + length) as usize], typ: said.number, low: low as u32, high: high as u32 }
+    }
+
+    /// The text at an offset of the strings, up to its zero.
+    pub fn text(&self, offset: u32) -> String {
+        let strings = &self.bytes[self.numbers[2] as usize..][..self.numbers[3] as usize];
+        let text = strings.get(offset as usize..).unwrap_or_default();
+        let end = text.iter().position(|byte| *byte == 0).unwrap_or(text.len());
+        String::from_utf8_lossy(&text[..end]).into_owned()
+    }
+
+    /// What an access string names, in words: `tcp_sock.inet_conn.icsk_ack.lrcvtime`. For people: nothing is decided by it.
+    pub fn path(&self, id: u32, access: &str) -> String {
+        let mut id = self.resolved(id);
+        let mut path = self.name(id);
+        for (number, part) in access.split(':').enumerate() {
+            let k: u32 = part.parse().unwrap_or(0);
+            if number == 0 {
+                if k > 0 {
+                    path.push_str(&format!("[{k}]"));
+                }
+                continue;
+            }
+            let typ = self.type_at(id);
+            if typ.kind == ARRAY {
+                path.push_str(&format!("[{k}]"));
+                id = self.resolved(typ.referred);
+            } else {
+                let entry = self.entry_at(id, k);
+                if !entry.name.is_empty() {
+                    path.push_str(&format!(".{}", String::from_utf8_lossy(entry.name)));
+                }
+                id = self.resolved(entry.typ);
+            }
+        }
+        path
+    }
+
+    /// The type behind modifiers, for `path`.
+    fn resolved(&self, mut id: u32) -> u32 {
+        for _ in 0..32 {
+            let typ = self.type_at(id);
+            if !MODIFIERS.contains(&typ.kind) {
+                break;
+            }
+            id = typ.referred;
+        }
+        id
+    }
+
+    fn lent(&self) -> ffi::Read<'_> {
+        ffi::Read { bytes: &self.bytes, table: &self.table, numbers: &self.numbers }
+    }
+}
+
+/// Applies CO-RE records to one function's instructions, in order, up to the first refusal; gives how many were applied.
+///
+/// `section_offset` is where the function begins in its section; a record is 16 bytes, four little-endian numbers:
+/// instruction offset in the section, type id, access string offset, kind.
+///
+/// # Errors
+///
+/// The first refused record, or bytes of a wrong shape. What was applied before stays; what the refused record leaves is
+/// fixed (document 01, sections 3 and 7).
+pub fn relocate(local: &Btf, target: &Btf, insns: &mut [u8], section_offset: u64, records: &[u8]) -> Result<u64, Refused> {
+    let said = ffi::relocate(&local.lent(), &target.lent(), insns, section_offset, records);
+    ended(local, target, records, &said)
+}
+
+/// The same, with document 01's report: four lines for each record up to and including the first refused.
+pub fn relocate_reported(
+    local: &Btf,
+    target: &Btf,
+    insns: &mut [u8],
+    section_offset: u64,
+    records: &[u8],
+) -> (Result<u64, Refused>, String) {
+    // A record's lines take at most 81 bytes: `record=`, `answer=`, `insn=`, `value=`, two numbers of 20 digits.
+    let mut out = vec![0; records.len() / 16 * 96];
+    let said = ffi::relocate_reported(&local.lent(), &target.lent(), insns, section_offset, records, &mut out);
+    out.truncate(said.numbers[3] as usize);
+    (ended(local, target, records, &said), String::from_utf8_lossy(&out).into_owned())
+}
+
+/// What a call said, as a result that names the place.
+fn ended(local: &Btf, target: &Btf, records: &[u8], said: &ffi::Said) -> Result<u64, Refused> {
+    let [applied, a, b, ..] = said.numbers;
+    if said.number == 0 {
+        return Ok(applied);
+    }
+    let Some(why) = Why::from_said(said.number, a, b) else {
+        return Err(Refused::Misshapen);
+    };
+    let type_id = type_id_of(records, applied);
+    let candidate = match why {
+        Why::Conflict { id, .. } | Why::MaximumNesting { id } => Some((id, target.name(id))),
+        _ => None,
+    };
+    Err(Refused::Record { record: applied, type_id, type_name: local.name(type_id), candidate, why })
+}
+
+/// The type id of a record of a list.
+fn type_id_of(records: &[u8], record: u64) -> u32 {
+    let at = record as usize * 16 + 4;
+    u32::from_le_bytes(records[at..at + 4].try_into().expect("four bytes"))
+}

@@ -1,0 +1,249 @@
+//! Refusals, typed, with document 01's numbers and words that name the place.
+use std::fmt;
+
+/// Why bytes are no BTF that can be used.
+#[derive(Clone, Copy, Debug, PartialEq, Eq)]
+pub enum BtfRefusal {
+    /// No. 1: the first fault is at this type id; 0 for the header or the strings.
+    Bad {
+        /// The type id, 0 for header or strings.
+        id: u32,
+    },
+    /// No. 2: more bytes or types than are carried.
+    OverLimit,
+}
+
+impl BtfRefusal {
+    /// Document 01's number.
+    pub fn number(self) -> u32 {
+        match self {
+            BtfRefusal::Bad { .. } => 1,
+            BtfRefusal::OverLimit => 2,
+        }
+    }
+}
+
+impl fmt::Display for BtfRefusal {
+    fn fmt(&self, f: &mut fmt::Formatter<'_>) -> fmt::Result {
+        match self {
+            BtfRefusal::Bad { id: 0 } => write!(f, "bad BTF: its header or its strings are not as the format says"),
+            BtfRefusal::Bad { id } => write!(f, "bad BTF: the first fault is at type id {id}"),
+            BtfRefusal::OverLimit => write!(f, "BTF over a limit: too many bytes or too many types"),
+        }
+    }
+}
+
+impl std::error::Error for BtfRefusal {}
+
+/// Why a record is refused. The variants are document 01's numbers 4 to 17.
+#[derive(Clone, Copy, Debug, PartialEq, Eq)]
+pub enum Why {
+    /// No. 4: the record's kind is above 11.
+    KindTooBig {
+        /// The kind.
+        kind: u32,
+    },
+    /// No. 5: the record's offset names no instruction of the function.
+    NotInFunction,
+    /// No. 6: the instruction needs a successor and has none.
+    NoSuccessor {
+        /// The index at which the successor would stand.
+        index: u64,
+    },
+    /// No. 7: the access string is not one, or not one for this kind.
+    BadAccess,
+    /// No. 8: a part of the access string is past the members, elements or variants.
+    IndexTooBig {
+        /// The part.
+        index: u64,
+        /// How many there are.
+        count: u64,
+    },
+    /// No. 9: the record's kind is not valid for the type.
+    WrongKind,
+    /// No. 10: candidates conflict with the first match.
+    Conflict {
+        /// The first conflicting type id.
+        id: u32,
+        /// How many conflict.
+        count: u64,
+    },
+    /// No. 11: the access grows past 64 parts in a candidate.
+    MaximumNesting {
+        /// The candidate's type id.
+        id: u32,
+    },
+    /// No. 12: the instruction cannot take the value.
+    BadInstruction {
+        /// The reason, 1 to 6.
+        reason: u32,
+    },
+    /// No. 13: no type matches a record that asks for a type's id or size.
+    NoMatch,
+    /// No. 14: an id, a string, a size or a chain of modifiers is not resolved.
+    Unresolved,
+    /// No. 15: the access string has more than 64 parts.
+    TooManyParts,
+    /// No. 16: a bit offset reaches 2^32.
+    BitsTooBig,
+    /// No. 17: a nesting limit is passed.
+    TooDeep,
+}
+
+impl Why {
+    /// Document 01's number.
+    pub fn number(self) -> u32 {
+        match self {
+            Why::KindTooBig { .. } => 4,
+            Why::NotInFunction => 5,
+            Why::NoSuccessor { .. } => 6,
+            Why::BadAccess => 7,
+            Why::IndexTooBig { .. } => 8,
+            Why::WrongKind => 9,
+            Why::Conflict { .. } => 10,
+            Why::MaximumNesting { .. } => 11,
+            Why::BadInstruction { .. } => 12,
+            Why::NoMatch => 13,
+            Why::Unresolved => 14,
+            Why::TooManyParts => 15,
+            Why::BitsTooBig => 16,
+            Why::TooDeep => 17,
+        }
+    }
+
+    /// The refusal with this number and these values beside it; `None` for a number that no record is refused with.
+    pub(crate) fn from_said(number: u32, a: u64, b: u64) -> Option<Why> {
+        // Ids and reasons are 32-bit numbers on the other side.
+        let id = a as u32;
+        Some(match number {
+            4 => Why::KindTooBig { kind: id },
+            5 => Why::NotInFunction,
+            6 => Why::NoSuccessor { index: a },
+            7 => Why::BadAccess,
+            8 => Why::IndexTooBig { index: a, count: b },
+            9 => Why::WrongKind,
+            10 => Why::Conflict { id, count: b },
+            11 => Why::MaximumNesting { id },
+            12 => Why::BadInstruction { reason: id },
+            13 => Why::NoMatch,
+            14 => Why::Unresolved,
+            15 => Why::TooManyParts,
+            16 => Why::BitsTooBig,
+            17 => Why::TooDeep,
+            _ => return None,
+        })
+    }
+
+    /// The values beside the number, as document 01 lists them; the record's own number where that is what is returned.
+    pub fn values(self, record: u64) -> Vec<u64> {
+        match self {
+            Why::KindTooBig { kind } => vec![kind.into()],
+            Why::NoSuccessor { index } => vec![index],
+            Why::IndexTooBig { index, count } => vec![index, count],
+            Why::Conflict { id, count } => vec![id.into(), count],
+            Why::MaximumNesting { id } => vec![id.into()],
+            Why::BadInstruction { reason } => vec![reason.into()],
+            Why::NotInFunction
+            | Why::BadAccess
+            | Why::WrongKind
+            | Why::NoMatch
+            | Why::Unresolved
+            | Why::TooManyParts
+            | Why::BitsTooBig
+            | Why::TooDeep => vec![record],
+        }
+    }
+}
+
+/// The words of the reasons of refusal 12.
+fn reason_words(reason: u32) -> &'static str {
+    match reason {
+        1 => "an arithmetic instruction whose source register is not r0 takes no immediate",
+        2 => "the offset is above 32767",
+        3 => "the load's size changes between types that are neither pointers nor unsigned integers",
+        4 => "the target's size is not 1, 2, 4 or 8 bytes",
+        5 => "its class takes no value",
+        6 => "the load's size changes and one side has no type to compare",
+        _ => "unknown reason",
+    }
+}
+
+impl fmt::Display for Why {
+    fn fmt(&self, f: &mut fmt::Formatter<'_>) -> fmt::Result {
+        match self {
+            Why::KindTooBig { kind } => write!(f, "record kind {kind} is above 11"),
+            Why::NotInFunction => write!(f, "its instruction is not in the function"),
+            Why::NoSuccessor { index } => write!(f, "the instruction needs a successor at index {index}, where the function has ended"),
+            Why::BadAccess => write!(f, "its access string is invalid"),
+            Why::IndexTooBig { index, count } => write!(f, "access index {index} is too big: there are {count}"),
+            Why::WrongKind => write!(f, "the record's kind is not valid for the type"),
+            Why::Conflict { id, count } => write!(f, "{count} matching types conflict with the first match, the first of them type id {id}"),
+            Why::MaximumNesting { id } => write!(f, "the access grows past 64 parts in candidate type id {id}"),
+            Why::BadInstruction { reason } => write!(f, "the instruction is invalid (reason {reason}): {}", reason_words(*reason)),
+            Why::NoMatch => write!(f, "no target type matches, and a type's id or size is asked for"),
+            Why::Unresolved => write!(f, "an id, a string, a size or a chain of modifiers cannot be resolved"),
+            Why::TooManyParts => write!(f, "its access string has more than 64 parts"),
+            Why::BitsTooBig => write!(f, "a bit offset reaches 2^32"),
+            Why::TooDeep => write!(f, "types are nested deeper than is carried"),
+        }
+    }
+}
+
+/// Why a relocation was refused, and where.
+#[derive(Clone, Debug, PartialEq, Eq)]
+pub enum Refused {
+    /// A record was refused. The records before it are applied, and their patches stay.
+    Record {
+        /// The record's number in the list, from 0; as many records were applied before it.
+        record: u64,
+        /// The record's type id in the local BTF.
+        type_id: u32,
+        /// That type's name, where it has one.
+        type_name: String,
+        /// The type id that the refusal names in the target, with its name, where it names one.
+        candidate: Option<(u32, String)>,
+        /// Why.
+        why: Why,
+    },
+    /// No. 18: the function's bytes or section offset are no multiple of 8, the records' bytes no multiple of 16, or there
+    /// are over 4,096 instructions.
+    Misshapen,
+}
+
+impl Refused {
+    /// Document 01's number.
+    pub fn number(&self) -> u32 {
+        match self {
+            Refused::Record { why, .. } => why.number(),
+            Refused::Misshapen => 18,
+        }
+    }
+
+    /// How many records were applied before.
+    pub fn applied(&self) -> u64 {
+        match self {
+            Refused::Record { record, .. } => *record,
+            Refused::Misshapen => 0,
+        }
+    }
+}
+
+impl fmt::Display for Refused {
+    fn fmt(&self, f: &mut fmt::Formatter<'_>) -> fmt::Result {
+        match self {
+            Refused::Record { record, type_id, type_name, candidate, why } => {
+                let name = if type_name.is_empty() { "unnamed" } else { type_name };
+                write!(f, "record {record}, of local type id {type_id} ({name}): {why}")?;
+                match candidate {
+                    Some((_, name)) if !name.is_empty() => write!(f, " ({name})"),
+                    _ => Ok(()),
+                }
+            }
+            Refused::Misshapen => {
+                write!(f, "instructions and section offset must be multiples of 8 bytes, records of 16, and instructions at most 4,096")
+            }
+        }
+    }
+}
+
+impl std::error::Error for Refused {}
