@@ -11,9 +11,10 @@ use view::size_of;
 ghost use mathlib.Core.Path.{_≡_};
 ghost use mathlib.Core.Bool.{cond, _||_};
 ghost use lib.Dec.{eqb};
+ghost use lib.ListN.{getD, drop};
 ghost use Rattle.view.specs.View.{tabView};
 ghost use Rattle.rules.specs.Kinds.{ARRAY, isModifier, isComposite, isEnum, hasSize, sizedByRef};
-ghost use Rattle.rules.specs.Types.{resolve, product, sizeOf};
+ghost use Rattle.rules.specs.Types.{resolve, product, sizeOf, isEmpty, sameText, flavourless, sameFlavourless};
 
 const BTF_KIND_INT: u32 = 1;
 
@@ -47,6 +48,8 @@ const BTF_KIND_ENUM64: u32 = 19;
 
 // How many types a loop looks at.
 const MAX_RESOLVE_DEPTH: u32 = 32;
+
+const UNDERSCORE: u8 = 95;
 
 const POINTER_SIZE: u32 = 8;
 
@@ -152,4 +155,55 @@ pub fn type_size(bytes: &[u8], table: &[u32], btf: Btf, id: u32) -> Sized
         left -= 1;
     }
     Sized::Unsized(Why::ChainTooLong, at)
+}
+
+// Byte for byte the same.
+pub fn same_text(a: &[u8], b: &[u8]) -> bool
+    ensures { λ r. ⌜ r ≡ sameText (now (a .entry)) (now (b .entry)) ⌝ }
+{
+    if a.len() != b.len() {
+        return false;
+    }
+    let mut i = 0;
+    while i < a.len() {
+        if a[i] != b[i] {
+            return false;
+        }
+        i += 1;
+    }
+    true
+}
+
+fn byte_at(name: &[u8], i: usize) -> u8
+    ensures { λ r. ⌜ r ≡ getD (now (name .entry)) i 0 ⌝ }
+{
+    if i < name.len() { name[i] } else { 0 }
+}
+
+// Whether a name has nothing from an index on, or a flavour.
+fn ends_at(name: &[u8], i: usize) -> bool
+    ensures { λ r. ⌜ r ≡ isEmpty (flavourless (drop i (now (name .entry)))) ⌝ }
+{
+    if i >= name.len() {
+        return true;
+    }
+    name[i] == UNDERSCORE
+        && (byte_at(name, i + 1) == UNDERSCORE && byte_at(name, i + 2) == UNDERSCORE)
+}
+
+// The same up to the first three underscores of each.
+pub fn same_flavourless(a: &[u8], b: &[u8]) -> bool
+    ensures { λ r. ⌜ r ≡ sameFlavourless (now (a .entry)) (now (b .entry)) ⌝ }
+{
+    let mut i = 0;
+    while !ends_at(a, i) {
+        if ends_at(b, i) {
+            return false;
+        }
+        if a[i] != b[i] {
+            return false;
+        }
+        i += 1;
+    }
+    ends_at(b, i)
 }

@@ -1,0 +1,32 @@
+-- `types::ends_at` meets its contract.
+-- Assumes nothing.
+use Rattle.types.proofs.Names.{nothing-left, third, no-second, no-first}
+use borrow.Author.Needs.{needs}
+use Rattle.types.proofs.ends_at.Statement.{statement}
+use Rattle.types.proofs.ends_at.Tie as tie
+
+returns : tie.Need-returns
+returns c = nothing-left (c .before .before .args .name .now) (c .before .before .args .i) (c .if1 .taken)
+
+returns-2 : tie.Need-returns-2
+returns-2 c = third (c .before .before .before .before .before .before .before .args .name .now) (c .before .before .before .before .before .before .before .args .i) (c .before .before .before .before .before .if1 .left) (c .before .before .before .if2 .taken) (c .before .before .byte-at .ensures) (c .before .if3 .taken) (c .byte-at2 .ensures)
+
+returns-3 : tie.Need-returns-3
+returns-3 c = no-second (c .before .before .before .before .before .before .args .name .now) (c .before .before .before .before .before .before .args .i) (c .before .before .before .before .if1 .left) (c .before .before .if2 .taken) (c .before .byte-at .ensures) (c .if3 .left)
+
+returns-4 : tie.Need-returns-4
+returns-4 c = no-first (c .before .before .before .before .args .name .now) (c .before .before .before .before .args .i) (c .before .before .if1 .left) (c .if2 .left)
+
+pub ends-at-spec : {M : Type 1} → statement M
+ends-at-spec =
+    tie.close
+    (tie.spec
+    returns
+    (λ c. search needs)
+    (λ c. search needs)
+    (λ c κs. search needs)
+    (λ c. search needs)
+    (λ c κs. search needs)
+    returns-2
+    returns-3
+    returns-4)
