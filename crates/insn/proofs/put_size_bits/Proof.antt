@@ -1,0 +1,15 @@
+-- `insn::put_size_bits` meets its contract.
+-- Assumes nothing.
+use mathlib.Core.Path.{_∙_, ap}
+use denote.Ref.{now}
+use Rattle.rules.specs.Apply.{done, withSize, withCode, code}
+use borrow.Author.Needs.{needs}
+use Rattle.insn.proofs.put_size_bits.Statement.{statement}
+use Rattle.insn.proofs.put_size_bits.Tie as tie
+
+returns : tie.Need-returns
+unfolding withSize withCode code
+returns c = rw (c .before .before .put-u8 .ensures, c .before .before .before .before .u8-at .ensures)
+
+pub put-size-bits-spec : {M : Type 1} → statement M
+put-size-bits-spec = tie.close (tie.spec (λ c κs. search needs) (λ c. search needs) (λ c. search needs) (λ c. search needs) (λ c κs. search needs) (λ c. search needs) returns)

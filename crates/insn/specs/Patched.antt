@@ -1,0 +1,27 @@
+-- What the code answers, as a patch of the rules.
+-- Assumes nothing.
+use Prim.Native.Nat.{ℕ, _+_, _*_}
+use mathlib.Core.Bool.{cond}
+use mathlib.Core.List.{List}
+use lib.Dec.{ltb}
+use Rattle.rules.specs.declared.Refusal.{Refusal}
+use Rattle.rules.specs.declared.Refusal.the-variants.{NoSuccessor, BadInstruction}
+use Rattle.rules.specs.Apply.{Patch, done, stopped}
+use Rattle.insn.specs.declared.Patched.{Patched}
+use Rattle.insn.specs.declared.Patched.the-variants.{Done, Stopped}
+
+-- The answer, with the instructions as they are left
+abbrev pub patchOf : Patched → List ℕ → Patch
+patchOf Done xs = done xs
+patchOf (Stopped r) xs = stopped r xs
+
+-- An instruction that is refused, and a successor that is missing
+abbrev pub invalid : ℕ → Patched
+invalid reason = Stopped (BadInstruction reason)
+
+abbrev pub noSuccessor : ℕ → Patched
+noSuccessor i = Stopped (NoSuccessor (i + 1))
+
+-- Where instruction i begins in so many bytes, or their end
+unfoldable pub startOf : ℕ → ℕ → ℕ
+startOf n i = cond (ltb (8 * i) n) (8 * i) n
