@@ -10,6 +10,8 @@ pub mod Matching
 pub mod Apply
 pub mod Record
 pub mod List
+pub mod Ascii
 pub mod Report
 pub mod Turns
 pub mod Call
+pub mod ReportLaws
