@@ -18,7 +18,7 @@ use borrow.Author.Tests.{eq-eqb, ne-eqb, lt-ltb, le-ltb}
 use Rattle.words.specs.Num.{little}
 use Rattle.words.specs.Put.{putAt}
 use Rattle.words.specs.Parts.{all-left, back}
-use Rattle.kinds.proofs.Keys.{at-key, in-range, split}
+use Rattle.kinds.specs.Keys.{at-key, in-range, split}
 use Rattle.rules.specs.declared.Refusal.the-variants.{NoSuccessor, BadInstruction}
 use Rattle.rules.specs.declared.Resize.{Resize}
 use Rattle.rules.specs.Apply.{Patch, done, stopped, hasSlot, code, class, poisoned, withImm, withOff, patchAlu, patchMemory, patchWide, patchClass, sizeBits, alsoNext, poison, resize, low, sourceRegister, patchFront, behind, patch}
