@@ -1,0 +1,116 @@
+// The exported calls, on numbers and slices: each hands over to a proved function and lays out what it said as numbers.
+// Every call answers for any bytes, any table and any numbers.
+use btf::Answer;
+use btf::Btf;
+use btf::Place;
+use btf::read;
+use view::count_of;
+use view::entry_of;
+use view::kind_of;
+use view::name_of;
+use view::ref_of;
+use view::size_of;
+use view::text_of;
+ghost use mathlib.Core.Path.{_≡_};
+ghost use lib.ListN.{length, set, getD};
+ghost use lib.Seq.{sets};
+ghost use Rattle.btf.specs.Table.{decode, tabled};
+ghost use Rattle.view.specs.View.{tabView};
+ghost use Rattle.leamugi.specs.Numbers.{said, five, btfOf, readNumbers};
+
+// An answer's number and the five beside it.
+pub struct Numbers {
+    pub number: u32,
+    pub a: u64,
+    pub b: u64,
+    pub c: u64,
+    pub d: u64,
+    pub e: u64,
+}
+
+// One number of what is said back, where there is room for it.
+fn put_number(said: &mut [u64], at: usize, n: u64)
+    ensures { λ _. ⌜ now (said .exit) ≡ set (now (said .entry)) at n ⌝ }
+{
+    if at < said.len() {
+        said[at] = n;
+    }
+}
+
+// The five numbers, as far as there is room.
+fn put_five(said: &mut [u64], n: Numbers)
+    ensures { λ _. ⌜ now (said .exit) ≡ sets (now (said .entry)) 0 (five n) ⌝ }
+{
+    put_number(said, 0, n.a);
+    put_number(said, 1, n.b);
+    put_number(said, 2, n.c);
+    put_number(said, 3, n.d);
+    put_number(said, 4, n.e);
+}
+
+fn said_numbers(number: u32, a: u64, b: u64, c: u64, d: u64, e: u64) -> Numbers
+    ensures { λ r. ⌜ r ≡ said number a b c d e ⌝ }
+{
+    Numbers {
+        number: number,
+        a: a,
+        b: b,
+        c: c,
+        d: d,
+        e: e,
+    }
+}
+
+// What a reading says.
+fn reading_numbers(answer: Answer) -> Numbers
+    ensures { λ r. ⌜ r ≡ readNumbers answer ⌝ }
+{
+    match answer {
+        Answer::Read(btf) => {
+            let t = btf.types;
+            let z = btf.strings;
+            said_numbers(0, t.start as u64, t.size as u64, z.start as u64, z.size as u64, btf.last as u64)
+        }
+        Answer::Bad(id) => said_numbers(1, id as u64, 0, 0, 0, 0),
+        Answer::Over => said_numbers(2, 0, 0, 0, 0, 0),
+        Answer::TooShort(entries) => said_numbers(3, entries as u64, 0, 0, 0, 0),
+    }
+}
+
+// A number of what was said, 0 where it is missing.
+fn number_at(said: &[u64], at: usize) -> u64
+    ensures { λ r. ⌜ r ≡ getD (now (said .entry)) at 0 ⌝ }
+{
+    if at < said.len() { said[at] } else { 0 }
+}
+
+// The BTF that the five numbers of a reading stand for.
+fn btf_from(said: &[u64]) -> Btf
+    ensures { λ r. ⌜ r ≡ btfOf (now (said .entry)) ⌝ }
+{
+    let last = number_at(said, 4);
+    Btf {
+        types: Place {
+            start: number_at(said, 0) as usize,
+            size: number_at(said, 1) as usize,
+        },
+        strings: Place {
+            start: number_at(said, 2) as usize,
+            size: number_at(said, 3) as usize,
+        },
+        last: (last % 4294967296) as u32,
+    }
+}
+
+// Reads bytes as a BTF. Answers document 01's number 0 to 3 and says beside it: 0, where types and strings begin and how
+// long they are, and the last id; 1, the id of the first fault; 3, the entries that the table needs.
+#[no_mangle]
+pub extern "C" fn leamugi_read(btf: &[u8], table: &mut [u32], said: &mut [u64]) -> u32
+    ensures number { λ r. ⌜ r ≡ readNumbers (decode (now (btf .entry)) (length (now (table .entry)))) .number ⌝ }
+    ensures table { λ _. ⌜ now (table .exit) ≡ tabled (now (btf .entry)) (now (table .entry)) ⌝ }
+    ensures said { λ _. ⌜ now (said .exit) ≡ sets (now (said .entry)) 0 (five (readNumbers (decode (now (btf .entry)) (length (now (table .entry)))))) ⌝ }
+{
+    let n = reading_numbers(read(btf, table));
+    put_five(said, n);
+    n.number
+}
