@@ -1,7 +1,7 @@
 -- `btf::highest` meets its contract.
 -- Assumes nothing.
 use native.Mathlib.Omega.{arith}
-use Rattle.btf.specs.Reach.{Topping, topping-first, topping-room, topping-next, topping-end}
+use Rattle.btf.specs.ReachLaws.{Topping, topping-first, topping-room, topping-next, topping-end}
 use borrow.Author.Needs.{needs}
 use Rattle.btf.proofs.highest.Statement.{statement}
 use Rattle.btf.proofs.highest.Tie as tie

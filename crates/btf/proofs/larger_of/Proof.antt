@@ -1,6 +1,6 @@
 -- `btf::larger_of` meets its contract.
 -- Assumes nothing.
-use Rattle.btf.specs.Reach.{larger-right, larger-left}
+use Rattle.btf.specs.ReachLaws.{larger-right, larger-left}
 use borrow.Author.Needs.{needs}
 use Rattle.btf.proofs.larger_of.Statement.{statement}
 use Rattle.btf.proofs.larger_of.Tie as tie

@@ -3,7 +3,7 @@
 use mathlib.Core.Path.{_∙_}
 use native.Mathlib.Omega.{arith}
 use Rattle.kinds.specs.Fields.{no-entry}
-use Rattle.btf.specs.Reach.{Room, room-parameters, room-enumerators, room-wide, room-variables, room-members, spans-parameters, spans-enumerators, spans-wide, spans-variables, spans-members, spans-none}
+use Rattle.btf.specs.ReachLaws.{Room, room-parameters, room-enumerators, room-wide, room-variables, room-members, spans-parameters, spans-enumerators, spans-wide, spans-variables, spans-members, spans-none}
 use borrow.Author.Needs.{needs}
 use Rattle.btf.proofs.list_reach.Statement.{statement}
 use Rattle.btf.proofs.list_reach.Tie as tie

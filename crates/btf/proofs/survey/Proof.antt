@@ -4,13 +4,14 @@ use native.Mathlib.Omega.{arith}
 use mathlib.Core.Path.{sym, _∙_}
 use Prim.Native.Nat.{_-_}
 use lib.ListN.{length}
+use Rattle.btf.specs.Limits.{maxTypes}
 use Rattle.btf.specs.Laws.{good-fits, told-next, Surveyed, surveyed-first, surveyed-many, surveyed-fault, surveyed-less, surveyed-next, surveyed-walks, surveyed-reached, surveyed-end}
 use borrow.Author.Needs.{needs}
 use Rattle.btf.proofs.survey.Statement.{statement}
 use Rattle.btf.proofs.survey.Tie as tie
 
 abbrev Inv-loop : tie.InvT-loop
-Inv-loop types room at₀ n₀ far₀ top₀ at n far top = Surveyed 65535 types far top at n
+Inv-loop types room at₀ n₀ far₀ top₀ at n far top = Surveyed maxTypes types far top at n
 
 abbrev μ-loop : tie.MeasureT-loop
 μ-loop types room at₀ n₀ far₀ top₀ at n far top = length types - at

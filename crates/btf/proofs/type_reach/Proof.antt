@@ -1,7 +1,7 @@
 -- `btf::type_reach` meets its contract.
 -- Assumes nothing.
 use native.Mathlib.Omega.{arith}
-use Rattle.btf.specs.Reach.{list-lies, type-reaches}
+use Rattle.btf.specs.ReachLaws.{list-lies, type-reaches}
 use Rattle.btf.specs.Laws.{least}
 use borrow.Author.Needs.{needs}
 use Rattle.btf.proofs.type_reach.Statement.{statement}

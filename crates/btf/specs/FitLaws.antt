@@ -1,0 +1,133 @@
+-- The laws of names and ids: the reach that the first pass keeps, and the search for the first that does not fit.
+-- Assumes nothing.
+use Prim.Native.Nat.{ℕ, zero, suc, _+_, _-_, _≤_, _<_}
+use mathlib.Core.Path.{_≡_, refl, sym, ap, _∙_}
+use mathlib.Core.Bool.{Bool, true, false, cond, _&&_}
+use mathlib.Core.List.{List}
+use native.Mathlib.Omega.{arith}
+use native.Mathlib.Nat.{sub-zero, zero-add, add-zero}
+use lib.ListN.{length}
+use lib.Dec.{leb, ltb}
+use borrow.Author.Tests.{lt-ltb, le-ltb, le-leb, lt-leb, ltb-true, leb-true}
+use Rattle.kinds.specs.Types.{typeAt, typeBytes, after}
+use Rattle.btf.specs.declared.Step.the-variants.{Next, Fault as Off}
+use Rattle.btf.specs.declared.Scan.{Scan}
+use Rattle.btf.specs.declared.Scan.the-variants.{Count, Fault as Stop, Over as Many}
+use Rattle.btf.specs.Accept.{stepAt, scan, fits, unfit, firstOr, thenFits}
+use Rattle.btf.specs.declared.Reach.{Reach}
+use Rattle.btf.specs.Tests.{and-false, and-l, and-r}
+use Rattle.btf.specs.ScanLaws.{told-next, Scanned, scanned-first, scanned-next, scanned-fault, scanned-many, scanned-end, Walking, walking-first, walking-next}
+use Rattle.btf.specs.Reach.{larger, reach, reachOf, within}
+use Rattle.btf.specs.ReachLaws.{larger-ltb, larger-leb, type-fits}
+
+-- the second pass
+pub record Fitting (most : ℕ) (t : List ℕ) (room last at n : ℕ) : Type 0 where
+  pub walk : Walking most t last at n
+  pub upto : n ≤ last
+  pub same : unfit t room last last 0 0 ≡ unfit t room last (last - n) at n
+
+pub fitting-first : {most : ℕ} {t : List ℕ} {last : ℕ} (room : ℕ) → Walking most t last 0 0 → Fitting most t room last 0 0
+fitting-first room w = record { walk = w; upto = omega arith; same = rw sub-zero }
+
+module _ {most : ℕ} {t : List ℕ} {room last at n : ℕ} (i : Fitting most t room last at n) where
+  module _ (h : n < last) where
+    one : unfit t room last (last - n) at n ≡ cond (fits room last (typeAt t at)) (unfit t room last (last - (n + 1)) (after t at) (n + 1)) (n + 1)
+    unfolding unfit
+    one = let q : last - n ≡ suc (last - (n + 1)) = omega arith in ap (λ (k : ℕ). unfit t room last k at n) q
+
+    module _ {r : Reach} (p : r ≡ reachOf (typeAt t at)) where
+      told : (b : Bool) → within room last r ≡ b → fits room last (typeAt t at) ≡ b
+      told b q = type-fits room last (typeAt t at) ∙ ap (within room last) (sym p) ∙ q
+
+      bad-one : within room last r ≡ false → n + 1 ≡ unfit t room last last 0 0
+      bad-one q = sym (i .same ∙ one ∙ rw (told false q))
+
+      pub fitting-far : room ≤ r .far → n + 1 ≡ unfit t room last last 0 0
+      fitting-far q = bad-one (rw (le-ltb (r .far) room q))
+
+      pub fitting-top : last < r .top → n + 1 ≡ unfit t room last last 0 0
+      fitting-top q = bad-one (rw (lt-leb (r .top) last q) (simp and-false))
+
+      pub fitting-next : {x : ℕ} → r .far < room → r .top ≤ last → x ≡ typeBytes t at → Fitting most t room last (at + x) (n + 1)
+      fitting-next f g e =
+          let q : within room last r ≡ true = rw (lt-ltb (r .far) room f, le-leb (r .top) last g) in
+          record {
+            walk = rw e (walking-next (i .walk) h);
+            upto = omega arith;
+            same = i .same ∙ one ∙ rw (told true q, e);
+          }
+
+  pub fitting-end : last ≤ n → 0 ≡ unfit t room last last 0 0
+  unfolding unfit
+  fitting-end h = let z : last - n ≡ 0 = omega arith in sym (i .same ∙ rw z)
+
+-- the first n types reach no farther than this: inside such bounds, an unfit one comes after them
+pub record Reached (t : List ℕ) (far top n : ℕ) : Type 0 where
+  pub fit : (room last : ℕ) → far < room → top ≤ last → unfit t room last n 0 0 ≡ 0
+
+-- the first pass with its reach, after n types
+pub record Surveyed (most : ℕ) (t : List ℕ) (far top at n : ℕ) : Type 0 where
+  pub scanned : Scanned most t at n
+  pub skip : (room last k : ℕ) → far < room → top ≤ last → unfit t room last (n + k) 0 0 ≡ unfit t room last k at n
+
+pub surveyed-first : (most : ℕ) (t : List ℕ) → Surveyed most t 0 0 0 0
+surveyed-first most t = record { scanned = scanned-first most t; skip = λ room last k f g. rw (zero-add k) }
+
+module _ {most : ℕ} {t : List ℕ} {far top at n : ℕ} (i : Surveyed most t far top at n) where
+  module _ (h : at < length t) (m : n ≡ most → ⊥) where
+    pub surveyed-less : {x : ℕ} → Next x ≡ stepAt t at → length t - x < length t - at
+    surveyed-less p = scanned-next (i .scanned) h m p .1
+
+    pub surveyed-next : {x f g : ℕ} (r : Reach) → Next x ≡ stepAt t at → r ≡ reachOf (typeAt t at) → f ≡ larger far (r .far) → g ≡ larger top (r .top)
+        → Surveyed most t f g x (n + 1)
+    unfolding unfit
+    surveyed-next {x} {f} {g} r p q ef eg = record { scanned = scanned-next (i .scanned) h m p .0; skip = skips }
+      where
+        fit-one : (room last : ℕ) → within room last (reach f g) ≡ true → (far < room) × (top ≤ last) × (fits room last (typeAt t at) ≡ true)
+        fit-one room last w =
+            let a : ltb far room && ltb (r .far) room ≡ true = sym (larger-ltb far (r .far) room) ∙ rw (← ef) (and-l _ _ w) in
+            let b : leb top last && leb (r .top) last ≡ true = sym (larger-leb top (r .top) last) ∙ rw (← eg) (and-r (ltb f room) _ w) in (
+              ltb-true far room (and-l _ _ a),
+              leb-true top last (and-l _ _ b),
+              type-fits room last (typeAt t at) ∙ ap (within room last) (sym q) ∙ rw (and-r (ltb far room) _ a, and-r (leb top last) _ b),
+            )
+
+        skips : (room last k : ℕ) → f < room → g ≤ last → unfit t room last (n + 1 + k) 0 0 ≡ unfit t room last k x (n + 1)
+        skips room last k hf hg =
+            let e : n + 1 + k ≡ n + suc k = omega arith in
+            let o = fit-one room last (rw (lt-ltb f room hf, le-leb g last hg)) in
+            let y : x ≡ after t at = told-next t at p .1 in
+            ap (λ (j : ℕ). unfit t room last j 0 0) e ∙ i .skip room last (suc k) (o .0) (o .1) ∙ rw (o .2, y)
+
+    pub surveyed-fault : (room : ℕ) → Off ≡ stepAt t at → Stop (n + 1) ≡ thenFits t room (scan t most 0 0)
+    surveyed-fault room p = rw (← scanned-fault (i .scanned) h m p)
+
+  pub surveyed-many : (room : ℕ) → at < length t → n ≡ most → Many ≡ thenFits t room (scan t most 0 0)
+  surveyed-many room h m = rw (← scanned-many (i .scanned) h m)
+
+  module _ (h : length t ≤ at) where
+    pub surveyed-walks : Walking most t n 0 0
+    surveyed-walks = walking-first most t n (scanned-end (i .scanned) h)
+
+    pub surveyed-reached : Reached t far top n
+    unfolding unfit
+    surveyed-reached = record { fit = λ room last f g. ap (λ (j : ℕ). unfit t room last j 0 0) (sym (add-zero n)) ∙ i .skip room last 0 f g }
+
+    pub surveyed-end : (room : ℕ) {c : Scan} → c ≡ firstOr n (unfit t room n n 0 0) → c ≡ thenFits t room (scan t most 0 0)
+    surveyed-end room p = p ∙ rw (← scanned-end (i .scanned) h)
+
+-- what is answered once all types have passed
+module _ (t : List ℕ) (room n : ℕ) where
+  pub settle-fine : {far top : ℕ} → Reached t far top n → far < room → top ≤ n → Count n ≡ firstOr n (unfit t room n n 0 0)
+  settle-fine r f g = rw (r .fit room n f g)
+
+  module _ {u : ℕ} (r : u ≡ unfit t room n n 0 0) where
+    pub settle-unfit : 0 < u → Stop u ≡ firstOr n (unfit t room n n 0 0)
+    settle-unfit l = rw (← r) (go u l)
+      where
+        go : (k : ℕ) → 0 < k → Stop k ≡ firstOr n k
+        go zero l = absurd (omega arith)
+        go (suc k) l = refl
+
+    pub settle-good : u ≤ 0 → Count n ≡ firstOr n (unfit t room n n 0 0)
+    settle-good l = let q : u ≡ 0 = omega arith in rw (← r, q)
