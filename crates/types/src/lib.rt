@@ -1,6 +1,22 @@
-// Questions about one type and about two, by id: where a chain of modifiers ends, how many bytes a type has, whether names
-// are the same but for flavours, whether two types or two fields' types are compatible. Any bytes, any table get an answer.
+// Questions about one type, by id: where its chain of modifiers ends and how many bytes it has; and whether two names are
+// the same but for flavours. Any bytes, any table get an answer.
 use btf::Btf;
+use rules::BTF_KIND_ARRAY;
+use rules::BTF_KIND_DATASEC;
+use rules::BTF_KIND_DECL_TAG;
+use rules::BTF_KIND_ENUM;
+use rules::BTF_KIND_ENUM64;
+use rules::BTF_KIND_FLOAT;
+use rules::BTF_KIND_FUNC_PROTO;
+use rules::BTF_KIND_INT;
+use rules::BTF_KIND_PTR;
+use rules::BTF_KIND_RESTRICT;
+use rules::BTF_KIND_STRUCT;
+use rules::BTF_KIND_TYPE_TAG;
+use rules::BTF_KIND_TYPEDEF;
+use rules::BTF_KIND_UNION;
+use rules::BTF_KIND_VAR;
+use rules::MAX_RESOLVE_DEPTH;
 use rules::Resolved;
 use rules::Sized;
 use rules::Why;
@@ -16,39 +32,6 @@ ghost use Rattle.view.specs.View.{tabView};
 ghost use Rattle.rules.specs.Kinds.{ARRAY, isModifier, isComposite, isEnum, hasSize, sizedByRef};
 ghost use Rattle.rules.specs.Types.{resolve, product, sizeOf, isEmpty, sameText, flavourless, sameFlavourless};
 
-const BTF_KIND_INT: u32 = 1;
-
-const BTF_KIND_PTR: u32 = 2;
-
-const BTF_KIND_ARRAY: u32 = 3;
-
-const BTF_KIND_STRUCT: u32 = 4;
-
-const BTF_KIND_UNION: u32 = 5;
-
-const BTF_KIND_ENUM: u32 = 6;
-
-const BTF_KIND_TYPEDEF: u32 = 8;
-
-const BTF_KIND_RESTRICT: u32 = 11;
-
-const BTF_KIND_FUNC_PROTO: u32 = 13;
-
-const BTF_KIND_VAR: u32 = 14;
-
-const BTF_KIND_DATASEC: u32 = 15;
-
-const BTF_KIND_FLOAT: u32 = 16;
-
-const BTF_KIND_DECL_TAG: u32 = 17;
-
-const BTF_KIND_TYPE_TAG: u32 = 18;
-
-const BTF_KIND_ENUM64: u32 = 19;
-
-// How many types a loop looks at.
-const MAX_RESOLVE_DEPTH: u32 = 32;
-
 const UNDERSCORE: u8 = 95;
 
 const POINTER_SIZE: u32 = 8;
@@ -63,13 +46,13 @@ fn is_modifier(kind: u32) -> bool
     kind == BTF_KIND_TYPE_TAG || (BTF_KIND_TYPEDEF <= kind && kind <= BTF_KIND_RESTRICT)
 }
 
-fn is_composite(kind: u32) -> bool
+pub fn is_composite(kind: u32) -> bool
     ensures { λ r. ⌜ r ≡ isComposite kind ⌝ }
 {
     kind == BTF_KIND_STRUCT || kind == BTF_KIND_UNION
 }
 
-fn is_enum(kind: u32) -> bool
+pub fn is_enum(kind: u32) -> bool
     ensures { λ r. ⌜ r ≡ isEnum kind ⌝ }
 {
     kind == BTF_KIND_ENUM || kind == BTF_KIND_ENUM64

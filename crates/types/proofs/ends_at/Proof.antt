@@ -9,10 +9,17 @@ returns : tie.Need-returns
 returns c = nothing-left (c .before .before .args .name .now) (c .before .before .args .i) (c .if1 .taken)
 
 returns-2 : tie.Need-returns-2
-returns-2 c = third (c .before .before .before .before .before .before .before .args .name .now) (c .before .before .before .before .before .before .before .args .i) (c .before .before .before .before .before .if1 .left) (c .before .before .before .if2 .taken) (c .before .before .byte-at .ensures) (c .before .if3 .taken) (c .byte-at2 .ensures)
+returns-2 c =
+    let b3 = c .before .before .before in
+    let b5 = b3 .before .before in
+    let b7 = b5 .before .before in
+    third (b7 .args .name .now) (b7 .args .i) (b5 .if1 .left) (b3 .if2 .taken) (c .before .before .byte-at .ensures) (c .before .if3 .taken) (c .byte-at2 .ensures)
 
 returns-3 : tie.Need-returns-3
-returns-3 c = no-second (c .before .before .before .before .before .before .args .name .now) (c .before .before .before .before .before .before .args .i) (c .before .before .before .before .if1 .left) (c .before .before .if2 .taken) (c .before .byte-at .ensures) (c .if3 .left)
+returns-3 c =
+    let b4 = c .before .before .before .before in
+    let b6 = b4 .before .before in
+    no-second (b6 .args .name .now) (b6 .args .i) (b4 .if1 .left) (c .before .before .if2 .taken) (c .before .byte-at .ensures) (c .if3 .left)
 
 returns-4 : tie.Need-returns-4
 returns-4 c = no-first (c .before .before .before .before .args .name .now) (c .before .before .before .before .args .i) (c .before .before .if1 .left) (c .if2 .left)

@@ -13,13 +13,24 @@ returns-2 : tie.Need-returns-2
 returns-2 c = sym (rw (ne-eqb _ _ (c .before .before .if1 .left), ← (c .before .is-composite .ensures), (c .if2 .taken)))
 
 returns-3 : tie.Need-returns-3
-returns-3 c = sym (rw (ne-eqb _ _ (c .before .before .before .before .if1 .left), ← (c .before .before .before .is-composite .ensures), (c .before .before .if2 .left), ← (c .before .is-enum .ensures), (c .if3 .taken)))
+returns-3 c =
+    let b3 = c .before .before .before in
+    let b4 = b3 .before in
+    sym (rw (ne-eqb _ _ (b4 .if1 .left), ← (b3 .is-composite .ensures), (c .before .before .if2 .left), ← (c .before .is-enum .ensures), (c .if3 .taken)))
 
 returns-4 : tie.Need-returns-4
-returns-4 c = sym (rw (ne-eqb _ _ (c .before .before .before .before .before .if1 .left), ← (c .before .before .before .before .is-composite .ensures), (c .before .before .before .if2 .left), ← (c .before .before .is-enum .ensures), (c .before .if3 .left), eq-eqb _ _ (c .if4 .taken)))
+returns-4 c =
+    let b3 = c .before .before .before in
+    let b4 = b3 .before in
+    let b5 = b4 .before in
+    sym (rw (ne-eqb _ _ (b5 .if1 .left), ← (b4 .is-composite .ensures), (b3 .if2 .left), ← (c .before .before .is-enum .ensures), (c .before .if3 .left), eq-eqb _ _ (c .if4 .taken)))
 
 returns-5 : tie.Need-returns-5
-returns-5 c = sym (rw (ne-eqb _ _ (c .before .before .before .before .before .if1 .left), ← (c .before .before .before .before .is-composite .ensures), (c .before .before .before .if2 .left), ← (c .before .before .is-enum .ensures), (c .before .if3 .left), ne-eqb _ _ (c .if4 .left)))
+returns-5 c =
+    let b3 = c .before .before .before in
+    let b4 = b3 .before in
+    let b5 = b4 .before in
+    sym (rw (ne-eqb _ _ (b5 .if1 .left), ← (b4 .is-composite .ensures), (b3 .if2 .left), ← (c .before .before .is-enum .ensures), (c .before .if3 .left), ne-eqb _ _ (c .if4 .left)))
 
 pub has-size-spec : {M : Type 1} → statement M
 has-size-spec =

@@ -19,10 +19,17 @@ unfolding resolve
 loop-holds c = refl
 
 returns : tie.Need-returns Inv-loop μ-loop
-returns c = sym (chain-ends _ _ _ (c .before .before .kind-of .ensures) (c .before .before .before .loop-test .taken) (c .before .is-modifier .ensures) (c .if1 .taken)) ∙ c .before .before .before .before .loop .inv
+returns c =
+    let b3 = c .before .before .before in
+    let b4 = b3 .before in
+    sym (chain-ends _ _ _ (c .before .before .kind-of .ensures) (b3 .loop-test .taken) (c .before .is-modifier .ensures) (c .if1 .taken)) ∙ b4 .loop .inv
 
 loop-again : tie.Need-loop-again Inv-loop μ-loop
-loop-again c = rw (c .ref-of .ensures) (sym (chain-goes _ _ _ (c .before .before .before .kind-of .ensures) (c .before .before .before .before .loop-test .taken) (c .before .before .is-modifier .ensures) (c .before .if1 .left)) ∙ c .before .before .before .before .before .loop .inv)
+loop-again c =
+    let b3 = c .before .before .before in
+    let b4 = b3 .before in
+    let b5 = b4 .before in
+    rw (c .ref-of .ensures) (sym (chain-goes _ _ _ (b3 .kind-of .ensures) (b4 .loop-test .taken) (c .before .before .is-modifier .ensures) (c .before .if1 .left)) ∙ b5 .loop .inv)
 
 returns-2 : tie.Need-returns-2 Inv-loop μ-loop
 returns-2 c = sym (chain-long _ _ _ (c .loop-test .left)) ∙ c .before .loop .inv

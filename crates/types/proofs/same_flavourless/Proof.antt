@@ -20,7 +20,11 @@ loop-holds : tie.Need-loop-holds Inv-loop μ-loop
 loop-holds c = refl
 
 returns : tie.Need-returns Inv-loop μ-loop
-returns c = other-ends (c .before .before .before .before .before .before .before .args .a .now) (c .before .before .before .before .before .before .before .args .b .now) (c .before .before .before .before .loop .i) (c .before .before .before .before .loop .inv) (c .before .before .before .ends-at .ensures) (c .before .ends-at2 .ensures) (c .before .before .if1 .taken) (c .if2 .taken)
+returns c =
+    let b3 = c .before .before .before in
+    let b4 = b3 .before in
+    let b7 = b4 .before .before .before in
+    other-ends (b7 .args .a .now) (b7 .args .b .now) (b4 .loop .i) (b4 .loop .inv) (b3 .ends-at .ensures) (c .before .ends-at2 .ensures) (c .before .before .if1 .taken) (c .if2 .taken)
 
 shared-slice-read-if3 : tie.Need-shared-slice-read-if3 Inv-loop μ-loop
 shared-slice-read-if3 c = inside _ _ (c .before .before .before .before .ends-at .ensures) (no _ (c .before .before .before .if1 .taken))
@@ -29,19 +33,46 @@ shared-slice-read-if3-2 : tie.Need-shared-slice-read-if3-2 Inv-loop μ-loop
 shared-slice-read-if3-2 c = inside _ _ (c .before .before .before .ends-at2 .ensures) (c .before .before .if2 .left)
 
 returns-2 : tie.Need-returns-2 Inv-loop μ-loop
-returns-2 c = name-differs (c .before .before .before .before .before .before .before .before .before .before .args .a .now) (c .before .before .before .before .before .before .before .before .before .before .args .b .now) (c .before .before .before .before .before .before .before .loop .i) (c .before .before .before .before .before .before .before .loop .inv) (c .before .before .before .before .before .before .ends-at .ensures) (c .before .before .before .before .ends-at2 .ensures) (c .before .before .before .before .before .if1 .taken) (c .before .before .before .if2 .left) (c .if3 .taken)
+returns-2 c =
+    let b3 = c .before .before .before in
+    let b4 = b3 .before in
+    let b5 = b4 .before in
+    let b6 = b5 .before in
+    let b7 = b6 .before in
+    let b10 = b7 .before .before .before in
+    name-differs (b10 .args .a .now) (b10 .args .b .now) (b7 .loop .i) (b7 .loop .inv) (b6 .ends-at .ensures) (b4 .ends-at2 .ensures) (b5 .if1 .taken) (b3 .if2 .left) (c .if3 .taken)
 
 add-i : tie.Need-add-i Inv-loop μ-loop
-add-i c = search (needs, inside (c .before .before .before .before .before .before .before .before .before .before .args .a .now) (c .before .before .before .before .before .before .before .loop .i) (c .before .before .before .before .before .before .ends-at .ensures) (no (c .before .before .before .before .before .before .ends-at .result) (c .before .before .before .before .before .if1 .taken)))
+add-i c =
+    let b5 = c .before .before .before .before .before in
+    let b6 = b5 .before in
+    let b7 = b6 .before in
+    let b10 = b7 .before .before .before in
+    search (needs, inside (b10 .args .a .now) (b7 .loop .i) (b6 .ends-at .ensures) (no (b6 .ends-at .result) (b5 .if1 .taken)))
 
 loop-less : tie.Need-loop-less Inv-loop μ-loop
-loop-less c = omega (arith, inside (c .before .before .before .before .before .before .before .before .before .before .args .a .now) (c .before .before .before .before .before .before .before .loop .i) (c .before .before .before .before .before .before .ends-at .ensures) (no (c .before .before .before .before .before .before .ends-at .result) (c .before .before .before .before .before .if1 .taken)))
+loop-less c =
+    let b5 = c .before .before .before .before .before in
+    let b6 = b5 .before in
+    let b7 = b6 .before in
+    let b10 = b7 .before .before .before in
+    omega (arith, inside (b10 .args .a .now) (b7 .loop .i) (b6 .ends-at .ensures) (no (b6 .ends-at .result) (b5 .if1 .taken)))
 
 loop-again : tie.Need-loop-again Inv-loop μ-loop
-loop-again c = name-goes (c .before .before .before .before .before .before .before .before .before .before .args .a .now) (c .before .before .before .before .before .before .before .before .before .before .args .b .now) (c .before .before .before .before .before .before .before .loop .i) (c .before .before .before .before .before .before .before .loop .inv) (c .before .before .before .before .before .before .ends-at .ensures) (c .before .before .before .before .ends-at2 .ensures) (c .before .before .before .before .before .if1 .taken) (c .before .before .before .if2 .left) (c .if3 .left)
+loop-again c =
+    let b3 = c .before .before .before in
+    let b4 = b3 .before in
+    let b5 = b4 .before in
+    let b6 = b5 .before in
+    let b7 = b6 .before in
+    let b10 = b7 .before .before .before in
+    name-goes (b10 .args .a .now) (b10 .args .b .now) (b7 .loop .i) (b7 .loop .inv) (b6 .ends-at .ensures) (b4 .ends-at2 .ensures) (b5 .if1 .taken) (b3 .if2 .left) (c .if3 .left)
 
 returns-3 : tie.Need-returns-3 Inv-loop μ-loop
-returns-3 c = name-ends (c .before .before .before .before .before .before .args .a .now) (c .before .before .before .before .before .before .args .b .now) (c .before .before .before .loop .i) (c .before .before .before .loop .inv) (c .before .before .ends-at .ensures) (c .ends-at3 .ensures) (c .before .if1 .left)
+returns-3 c =
+    let b3 = c .before .before .before in
+    let b6 = b3 .before .before .before in
+    name-ends (b6 .args .a .now) (b6 .args .b .now) (b3 .loop .i) (b3 .loop .inv) (c .before .before .ends-at .ensures) (c .ends-at3 .ensures) (c .before .if1 .left)
 
 pub same-flavourless-spec : {M : Type 1} → statement M
 same-flavourless-spec =

@@ -22,13 +22,21 @@ loop-holds : tie.Need-loop-holds Inv-loop μ-loop
 loop-holds c = (search needs, refl)
 
 returns-2 : tie.Need-returns-2 Inv-loop μ-loop
-returns-2 c = text-differs (c .before .before .before .before .before .before .args .a .now) (c .before .before .before .before .before .before .args .b .now) (c .before .before .before .before .loop .i) (c .before .before .before .before .loop .inv .1) (omega arith) (omega arith) (c .if2 .taken)
+returns-2 c =
+    let b4 = c .before .before .before .before in
+    let b6 = b4 .before .before in
+    text-differs (b6 .args .a .now) (b6 .args .b .now) (b4 .loop .i) (b4 .loop .inv .1) (omega arith) (omega arith) (c .if2 .taken)
 
 loop-again : tie.Need-loop-again Inv-loop μ-loop
-loop-again c = (search needs, text-goes (c .before .before .before .before .before .before .args .a .now) (c .before .before .before .before .before .before .args .b .now) (c .before .before .before .before .loop .i) (c .before .before .before .before .loop .inv .1) (omega arith) (omega arith) (c .if2 .left))
+loop-again c =
+    let b4 = c .before .before .before .before in
+    let b6 = b4 .before .before in
+    (search needs, text-goes (b6 .args .a .now) (b6 .args .b .now) (b4 .loop .i) (b4 .loop .inv .1) (omega arith) (omega arith) (c .if2 .left))
 
 returns-3 : tie.Need-returns-3 Inv-loop μ-loop
-returns-3 c = text-ends (c .before .before .before .args .a .now) (c .before .before .before .args .b .now) (c .before .loop .i) (c .before .loop .inv .1) (omega arith) (omega arith)
+returns-3 c =
+    let b3 = c .before .before .before in
+    text-ends (b3 .args .a .now) (b3 .args .b .now) (c .before .loop .i) (c .before .loop .inv .1) (omega arith) (omega arith)
 
 pub same-text-spec : {M : Type 1} → statement M
 same-text-spec =

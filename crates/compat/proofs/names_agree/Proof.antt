@@ -1,0 +1,32 @@
+-- `compat::names_agree` meets its contract.
+-- Assumes nothing.
+use mathlib.Core.Path.{sym}
+use borrow.Author.Needs.{needs}
+use Rattle.compat.proofs.names_agree.Statement.{statement}
+use Rattle.compat.proofs.names_agree.Tie as tie
+
+returns : tie.Need-returns
+returns c =
+    let b3 = c .before .before .before in
+    let b4 = b3 .before in
+    let b5 = b4 .before in
+    sym (rw (← (b5 .name-of .ensures), ← (b4 .text-of .ensures), ← (b3 .name-of2 .ensures), ← (c .before .before .text-of2 .ensures), ← (c .before .same-flavourless .ensures), (c .if1 .taken)))
+
+returns-2 : tie.Need-returns-2
+returns-2 c =
+    let b3 = c .before .before .before in
+    let b4 = b3 .before in
+    let b5 = b4 .before in
+    sym (rw (← (b5 .name-of .ensures), ← (b4 .text-of .ensures), ← (b3 .name-of2 .ensures), ← (c .before .before .text-of2 .ensures), ← (c .before .same-flavourless .ensures), (c .if1 .left)))
+
+pub names-agree-spec : {M : Type 1} → statement M
+names-agree-spec =
+    tie.close
+    (tie.spec
+    (λ c κs. search needs)
+    (λ c κs. search needs)
+    (λ c κs. search needs)
+    (λ c κs. search needs)
+    (λ c κs. search needs)
+    returns
+    returns-2)
