@@ -3,7 +3,7 @@
 use mathlib.Core.Path.{_≡_, refl, sym, ap, ap₂, _∙_}
 use mathlib.Core.Bool.{true, false}
 use mathlib.Core.List.{List, [], _∷_, _++_}
-use mathlib.Core.Logic.{_⊎_, ⊎-elim, inl, inr}
+use mathlib.Core.Logic.{⊎-elim, inl, inr}
 use mathlib.Core.Option.{none}
 use Prim.Native.Nat.{ℕ, _+_, _-_, _*_, _/_, _%_, _≤_, _<_}
 use native.Mathlib.Omega.{arith}
@@ -14,7 +14,8 @@ use mir.Syntax.{Width, w16}
 use mir.Val.{Fits, ofZ, toZ}
 use mir.ValLaws.{ofZ-toZ}
 use types.Run.{OneOf}
-use borrow.Author.Tests.{eq-eqb, ne-eqb, lt-ltb, le-ltb}
+use lib.Dec.{leb}
+use borrow.Author.Tests.{eq-eqb, ne-eqb, lt-ltb, le-ltb, le-leb, lt-leb, ltb-true}
 use Rattle.words.specs.Num.{little}
 use Rattle.words.specs.Put.{putAt}
 use Rattle.words.specs.Parts.{all-left, back}
@@ -65,11 +66,15 @@ starts xs i =
     (split (8 * i) n)
 
 -- The successor is there when there are sixteen bytes.
-pub next : (xs : List ℕ) → 16 ≤ length xs → hasSlot xs 1 ≡ true
-next xs h = lt-ltb 1 (length xs / 8) (omega arith)
+pub sixteen : (xs : List ℕ) → leb 16 (length xs) ≡ hasSlot xs 1
+sixteen xs =
+    ⊎-elim
+    (λ (h : length xs < 16). lt-leb 16 (length xs) h ∙ sym (le-ltb 1 (length xs / 8) (omega arith)))
+    (λ (h : 16 ≤ length xs). le-leb 16 (length xs) h ∙ sym (lt-ltb 1 (length xs / 8) (omega arith)))
+    (split (length xs) 16)
 
-pub no-next : (xs : List ℕ) → length xs < 16 → hasSlot xs 1 ≡ false
-no-next xs h = le-ltb 1 (length xs / 8) (omega arith)
+pub room : (xs : List ℕ) → hasSlot xs 1 ≡ true → 8 ≤ length xs
+room xs h = omega (arith, ltb-true 1 (length xs / 8) h)
 
 -- A class
 module _ (b : ℕ) (xs : List ℕ) (i n : ℕ) (z : Resize) (e : b ≡ getD xs 0 0) where
@@ -107,13 +112,13 @@ no-bits s a b c d = rw (ne-eqb s 1 a, ne-eqb s 2 b, ne-eqb s 4 c, ne-eqb s 8 d)
 
 -- The successor is missing, or is lent as the part from byte 8 on and comes back as zs.
 module _ (change : List ℕ → List ℕ) (xs : List ℕ) (i : ℕ) where
-  pub missing : length xs < 16 → stopped (NoSuccessor (i + 1)) xs ≡ alsoNext change xs i
+  pub missing : hasSlot xs 1 ≡ false → stopped (NoSuccessor (i + 1)) xs ≡ alsoNext change xs i
   unfolding alsoNext
-  missing h = rw (no-next xs h)
+  missing h = rw h
 
-  pub changed : 16 ≤ length xs → (zs : List ℕ) → zs ≡ change (take (length xs - 8) (drop 8 xs)) → done (take 8 xs ++ (zs ++ drop (length xs - 8) (drop 8 xs))) ≡ alsoNext change xs i
+  pub changed : hasSlot xs 1 ≡ true → (zs : List ℕ) → zs ≡ change (take (length xs - 8) (drop 8 xs)) → done (take 8 xs ++ (zs ++ drop (length xs - 8) (drop 8 xs))) ≡ alsoNext change xs i
   unfolding alsoNext
-  changed h zs e = rw (next xs h) (ap done (lent change 8 xs zs e))
+  changed h zs e = rw h (ap done (lent change 8 xs zs e))
 
 -- Poison: ys has the first instruction poisoned, b is the code that it had.
 module _ (b : ℕ) (xs ys : List ℕ) (i : ℕ) (e : b ≡ getD xs 0 0) (p : ys ≡ poisoned xs) where

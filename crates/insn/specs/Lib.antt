@@ -1,1 +1,4 @@
 pub mod Patched
+pub mod Kept
+pub mod KeptLaws
+pub mod Order

@@ -97,6 +97,24 @@ fn no_successor(index: u32) -> Patched
     Patched::Stopped(Refusal::NoSuccessor(index as u64 + 1))
 }
 
+fn has_successor(insns: &[u8]) -> bool
+    ensures { λ r. ⌜ r ≡ apply.hasSlot (now (insns .entry)) 1 ⌝ }
+{
+    insns.len() >= 2 * INSN_SIZE
+}
+
+fn low(value: u64) -> u32
+    ensures { λ r. ⌜ r ≡ apply.low value ⌝ }
+{
+    (value % HALF) as u32
+}
+
+fn high(value: u64) -> u32
+    ensures { λ r. ⌜ r ≡ apply.high value ⌝ }
+{
+    (value / HALF) as u32
+}
+
 // imm, the signed number with these 32 bits.
 fn put_imm(insns: &mut [u8], bits: u32)
     ensures { λ _. ⌜ now (insns .exit) ≡ apply.withImm (now (insns .entry)) bits ⌝ }
@@ -122,11 +140,11 @@ fn poison(insns: &mut [u8], index: u32) -> Patched
     if code != BPF_LD_IMM64 {
         return Patched::Done;
     }
-    if insns.len() < 2 * INSN_SIZE {
-        return no_successor(index);
+    if has_successor(insns) {
+        poison_insn(&mut insns[INSN_SIZE..]);
+        return Patched::Done;
     }
-    poison_insn(&mut insns[INSN_SIZE..]);
-    Patched::Done
+    no_successor(index)
 }
 
 // An immediate operand takes the low half.
@@ -136,7 +154,7 @@ fn patch_alu(insns: &mut [u8], value: u64) -> Patched
     if u8_at(insns, REGISTERS) / 16 != 0 {
         return bad_instruction(SOURCE_REGISTER);
     }
-    put_imm(insns, (value % HALF) as u32);
+    put_imm(insns, low(value));
     Patched::Done
 }
 
@@ -189,12 +207,12 @@ fn patch_memory(insns: &mut [u8], value: u64, change: Resize) -> Patched
 fn patch_wide(insns: &mut [u8], index: u32, value: u64) -> Patched
     ensures { λ r. ⌜ patchOf r (now (insns .exit)) ≡ apply.patchWide (now (insns .entry)) index value ⌝ }
 {
-    put_imm(insns, (value % HALF) as u32);
-    if insns.len() < 2 * INSN_SIZE {
-        return no_successor(index);
+    put_imm(insns, low(value));
+    if has_successor(insns) {
+        put_imm(&mut insns[INSN_SIZE..], high(value));
+        return Patched::Done;
     }
-    put_imm(&mut insns[INSN_SIZE..], (value / HALF) as u32);
-    Patched::Done
+    no_successor(index)
 }
 
 // A value, by the instruction's class.

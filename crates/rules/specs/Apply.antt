@@ -1,13 +1,13 @@
 -- What is written into an instruction (document 01, section 7; RFC 9669; the crate's apply and poison_insn).
 -- An instruction is 8 bytes: code, destination (low) and source (high) register, off in 2 bytes, imm in 4.
 -- Down to the last definition `xs` are the instructions from the patched one, i, onward: it stands at the front, its successor behind it.
-use Prim.Native.Nat.{ℕ, zero, suc, _+_, _*_, _/_, _%_, _^_}
-use mathlib.Core.Bool.{Bool, true, false, cond, _&&_, _||_, not}
+use Prim.Native.Nat.{ℕ, _+_, _*_, _/_, _%_, _^_}
+use mathlib.Core.Bool.{Bool, cond, _||_}
 use mathlib.Core.List.{List, [], _∷_, _++_}
 use mathlib.Core.Option.{Option, none, some}
 use lib.ListN.{length, getD, take, drop, set}
 use lib.Seq.{sets}
-use lib.Dec.{leb, eqb, ltb}
+use lib.Dec.{eqb, ltb}
 use Rattle.words.specs.Num.{little}
 use Rattle.words.specs.Put.{putAt}
 use Rattle.rules.specs.declared.Refusal.{Refusal}

@@ -1,6 +1,5 @@
 -- `insn::patch` meets its contract.
 -- Assumes nothing.
-use mathlib.Core.Path.{_∙_, ap}
 use denote.Ref.{now}
 use Rattle.insn.proofs.Laws.{patched}
 use borrow.Author.Needs.{needs}

@@ -2,6 +2,7 @@
 -- Assumes nothing.
 use mathlib.Core.Path.{_∙_, ap}
 use denote.Ref.{now}
+use Rattle.rules.specs.Apply.{withImm}
 use Rattle.insn.specs.Patched.{patchOf}
 use Rattle.insn.specs.declared.Patched.{Patched}
 use Rattle.insn.proofs.Laws.{register, immediate}
@@ -17,8 +18,9 @@ returns c =
 
 returns-2 : tie.Need-returns-2
 returns-2 c =
-    let a = c .before .before .before .before .before .before .before .before .args in
-    immediate _ (now (a .insns)) (a .value) (c .before .before .before .before .before .u8-at .ensures) (c .before .before .before .before .if1 .left) (c .before .before .put-imm .ensures)
+    let a = c .before .before .before .before .before .before .before .before .before .args in
+    let xs = now (a .insns) in
+    immediate _ xs (a .value) (c .before .before .before .before .before .before .u8-at .ensures) (c .before .before .before .before .before .if1 .left) (c .before .before .put-imm .ensures ∙ ap (withImm xs) (c .before .before .before .low .ensures))
 
 pub patch-alu-spec : {M : Type 1} → statement M
-patch-alu-spec = tie.close (tie.spec (λ c κs. search needs) (λ c κs. search needs) (λ c. search needs) returns (λ c. search needs) (λ c κs. search needs) (λ c. search needs) returns-2)
+patch-alu-spec = tie.close (tie.spec (λ c κs. search needs) (λ c κs. search needs) (λ c. search needs) returns (λ c κs. search needs) (λ c κs. search needs) (λ c. search needs) returns-2)

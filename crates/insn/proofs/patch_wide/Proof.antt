@@ -1,35 +1,41 @@
 -- `insn::patch_wide` meets its contract.
 -- Assumes nothing.
-use mathlib.Core.Path.{_∙_, ap}
+use mathlib.Core.Path.{_∙_, ap, sym}
 use mathlib.Core.List.{List}
 use Prim.Native.Nat.{ℕ}
 use denote.Ref.{now}
-use Rattle.rules.specs.Apply.{Patch, withImm, high, alsoNext, patchWide}
+use Rattle.rules.specs.Apply.{withImm, high, alsoNext, patchWide}
 use Rattle.insn.specs.Patched.{patchOf}
 use Rattle.insn.specs.declared.Patched.{Patched}
-use Rattle.insn.proofs.Laws.{missing, changed}
+use Rattle.insn.proofs.Laws.{room, missing, changed}
 use borrow.Author.Needs.{needs}
 use Rattle.insn.proofs.patch_wide.Statement.{statement}
 use Rattle.insn.proofs.patch_wide.Tie as tie
 
+sub-put-imm : tie.Need-sub-put-imm
+sub-put-imm c = room (c .before .before .before .before .before .put-imm .last .0) (sym (c .before .has-successor .ensures) ∙ c .if1 .taken)
+
+part-put-imm-start : tie.Need-part-put-imm-start
+part-put-imm-start c = sub-put-imm c
+
 returns : tie.Need-returns
 unfolding patchWide
 returns c =
-    let a = c .before .before .before .before .before .before .before .args in
-    let first = c .before .before .before .before .put-imm in
+    let a = c .before .before .before .before .before .before .before .before .before .before .before .before .before .before .args in
+    let first = c .before .before .before .before .before .before .before .before .before .before .put-imm in
     let change : List ℕ → List ℕ = λ l. withImm l (high (a .value)) in
-    ap (λ (p : Patched). patchOf p (first .last .0)) (c .no-successor .ensures)
-    ∙ missing change (first .last .0) (a .index) (c .before .if1 .taken)
-    ∙ ap (λ (l : List ℕ). alsoNext change l (a .index)) (first .ensures)
+    changed change (first .last .0) (a .index) (sym (c .before .before .before .before .before .before .has-successor .ensures) ∙ c .before .before .before .before .before .if1 .taken) _ (c .before .before .put-imm2 .ensures ∙ ap (withImm _) (c .before .before .before .high .ensures))
+    ∙ ap (λ (l : List ℕ). alsoNext change l (a .index)) (first .ensures ∙ ap (withImm (now (a .insns))) (c .before .before .before .before .before .before .before .before .before .before .before .low .ensures))
 
 returns-2 : tie.Need-returns-2
 unfolding patchWide
 returns-2 c =
     let a = c .before .before .before .before .before .before .before .before .before .before .args in
-    let first = c .before .before .before .before .before .before .before .put-imm in
+    let first = c .before .before .before .before .before .before .put-imm in
     let change : List ℕ → List ℕ = λ l. withImm l (high (a .value)) in
-    changed change (first .last .0) (a .index) (c .before .before .before .before .if1 .left) _ (c .before .before .put-imm2 .ensures)
-    ∙ ap (λ (l : List ℕ). alsoNext change l (a .index)) (first .ensures)
+    ap (λ (p : Patched). patchOf p (first .last .0)) (c .no-successor .ensures)
+    ∙ missing change (first .last .0) (a .index) (sym (c .before .before .has-successor .ensures) ∙ c .before .if1 .left)
+    ∙ ap (λ (l : List ℕ). alsoNext change l (a .index)) (first .ensures ∙ ap (withImm (now (a .insns))) (c .before .before .before .before .before .before .before .low .ensures))
 
 pub patch-wide-spec : {M : Type 1} → statement M
-patch-wide-spec = tie.close (tie.spec (λ c. search needs) (λ c κs. search needs) (λ c. search needs) (λ c κs. search needs) (λ c. search needs) returns (λ c. search needs) (λ c. search needs) (λ c. search needs) (λ c. search needs) (λ c κs. search needs) (λ c. search needs) returns-2)
+patch-wide-spec = tie.close (tie.spec (λ c κs. search needs) (λ c κs. search needs) (λ c κs. search needs) sub-put-imm part-put-imm-start (λ c. search needs) (λ c κs. search needs) (λ c κs. search needs) (λ c. search needs) returns (λ c κs. search needs) (λ c. search needs) returns-2)

@@ -1,8 +1,6 @@
 -- `insn::put_size_bits` meets its contract.
 -- Assumes nothing.
-use mathlib.Core.Path.{_∙_, ap}
-use denote.Ref.{now}
-use Rattle.rules.specs.Apply.{done, withSize, withCode, code}
+use Rattle.rules.specs.Apply.{withSize, withCode, code}
 use borrow.Author.Needs.{needs}
 use Rattle.insn.proofs.put_size_bits.Statement.{statement}
 use Rattle.insn.proofs.put_size_bits.Tie as tie

@@ -2,8 +2,7 @@
 -- Assumes nothing.
 use mathlib.Core.Path.{_∙_, ap, sym}
 use denote.Ref.{now}
-use Rattle.rules.specs.declared.Resize.{Resize}
-use Rattle.rules.specs.Apply.{Patch, resize}
+use Rattle.rules.specs.Apply.{resize}
 use Rattle.insn.specs.Patched.{patchOf}
 use Rattle.insn.specs.declared.Patched.{Patched}
 use borrow.Author.Needs.{needs}
