@@ -9,6 +9,7 @@ use native.Mathlib.Nat.{zero-add}
 use native.Mathlib.Decide.{ℕ-discrete}
 use lib.ListN.{length}
 use lib.Dec.{eqb}
+use borrow.Author.Tests.{ne-eqb}
 use Rattle.rules.specs.declared.Refusal.{Refusal}
 use Rattle.rules.specs.declared.Refusal.the-variants.{Conflict}
 use Rattle.rules.specs.declared.Worth.{Worth}
@@ -113,7 +114,7 @@ module _ (f : ℕ → Event) (p : ℕ → Bool) (b : ℕ) (v : Worth) (eq : (j :
       go : (x : Option Refusal) (ids : List ℕ) → conclude k (ended x (counted b v c 0 ids)) ≡ unless v (owed x ids)
       go (some q) ids = unfold conclude in refl
       go none [] = unfold conclude in refl
-      go none (j ∷ js) = unfold conclude in rw (many j 0 js, zero-add (length js))
+      go none (j ∷ js) = unfold conclude in rw (many j 0 js, zero-add (length js), ne-eqb (suc (length js)) 0 (λ e. omega arith))
 
 -- What is due
 

@@ -6,6 +6,7 @@ use mathlib.Core.List.{List, [], _∷_}
 use mathlib.Core.Option.{Option, none, some}
 use native.Mathlib.Omega.{arith}
 use lib.Dec.{eqb, ltb}
+use borrow.Author.Tests.{ne-eqb}
 use Rattle.kinds.specs.Types.{Ty}
 use Rattle.view.specs.View.{View, Closed, Extends}
 use Rattle.rules.specs.declared.Refusal.{Refusal}
@@ -156,9 +157,17 @@ module _ (L T : View) (section : ℕ) (insns : List ℕ) (r : Record) where
       go Unmatched e g t = let z : _≡_ {A = ℕ} 0 1 = cc in absurd (omega arith)
       go (Halted q) e g t = let z : _≡_ {A = ℕ} 0 1 = cc in absurd (omega arith)
       go (Kept b v c zero) e g t = record { bits = b; value = v; none = c; is = e }
-      go (Kept b v c (suc n)) e g t =
-          let u : true ≡ false = (unfold conclude in unfold apply in t) in
-          let z : _≡_ {A = ℕ} 0 1 = cc in absurd (omega arith)
+      go (Kept b v c (suc n)) e g t = clash (shut t)
+        where
+          clash : {A : Type 0} → true ≡ false → A
+          clash q = let z : _≡_ {A = ℕ} 0 1 = cc in absurd (omega arith)
+
+          conflicts : conclude (r .kind) (Kept b v c (suc n)) ≡ refused (Conflict c (suc n))
+          conflicts = unfold conclude in rw (ne-eqb (suc n) 0 (λ q. omega arith))
+
+          shut : isRefused (apply insns (indexOf section r) (computed (L .typ) (T .typ) (ok (d .mine)) (conclude (r .kind) (Kept b v c (suc n)))) .answer) ≡ false
+              → true ≡ false
+          shut q = unfold apply in rw (← q, conflicts)
 
 -- A record that looks at a target
 
