@@ -2,7 +2,7 @@
 -- This file says it, and no more; it is proved in Proved. In plain words, with C structs: docs/DEMAND-3.md.
 use Prim.Native.Nat.{ℕ, zero, suc, _-_, _≤_, _<_}
 use mathlib.Core.Path.{_≡_}
-use mathlib.Core.Bool.{Bool, true, false, cond, _||_, not}
+use mathlib.Core.Bool.{Bool, true, false, cond, _&&_, _||_, not}
 use mathlib.Core.List.{List, [], _∷_, _++_}
 use mathlib.Core.Option.{Option, none, some}
 use lib.ListN.{length}
@@ -25,12 +25,15 @@ use Rattle.rules.specs.declared.Matches.the-variants.{Unmatched, Kept, Halted}
 use Rattle.rules.specs.declared.Record.{Record}
 use Rattle.rules.specs.declared.Answer.{Answer}
 use Rattle.rules.specs.declared.Answer.the-variants.{Applied, Poisoned, Refused}
+use Rattle.rules.specs.declared.Ending.{Ending}
+use Rattle.rules.specs.declared.Ending.the-variants.{Done, BadBtf, OverLimit, TableShort, Stopped, Misshapen}
 use Rattle.rules.specs.Kinds.{typeIdLocal}
 use Rattle.rules.specs.Refusal.{Reply, ok, refused, number}
 use Rattle.rules.specs.Access.{Access}
 use Rattle.rules.specs.Value.{localValue}
 use Rattle.rules.specs.Record.{over, eventAt, accessed, refuse, recordOf}
 use Rattle.rules.specs.List.{Run, listOf}
+use Rattle.rules.specs.Call.{ended, Effect}
 
 -- Two targets
 
@@ -148,10 +151,14 @@ hasMatch Unmatched = false
 hasMatch (Kept b v c n) = true
 hasMatch (Halted q) = false
 
--- The record is accepted against the target T, with at least one matching type; or it is `TypeIdLocal`, which needs none.
+-- The record has a match in the target T; or it is `TypeIdLocal`, which needs none.
+abbrev pub isMatched : View → View → Record → Bool
+isMatched L T r = eqb (r .kind) typeIdLocal || hasMatch (firstMatch L T r)
+
+-- A record that is accepted against the target T, with at least one matching type
 pub record Settled (L T : View) (section : ℕ) (insns : List ℕ) (r : Record) : Type 0 where
   pub accepted : isRefused (recordOf L T section insns r .answer) ≡ false
-  pub matched : (eqb (r .kind) typeIdLocal || hasMatch (firstMatch L T r)) ≡ true
+  pub matched : isMatched L T r ≡ true
 
 -- Refused with what is due, and every instruction byte as it was
 pub record RefusedAsDue (L T E : View) (section : ℕ) (insns : List ℕ) (r : Record) : Type 0 where
@@ -160,7 +167,7 @@ pub record RefusedAsDue (L T E : View) (section : ℕ) (insns : List ℕ) (r : R
   pub numbered : isDueNumber (number refusal) ≡ true
   pub outcome : recordOf L E section insns r ≡ refuse insns refusal
 
--- The demand: local types L, target T grown into E, a function that begins at `section` with these instructions, a record.
+-- THE DEMAND: local types L, target T grown into E, a function that begins at `section` with these instructions, a record.
 pub record Demand3 (L T E : View) (section : ℕ) (insns : List ℕ) (r : Record) : Type 0 where
   -- Where no type past the old end is harmful: the same answer, the same value, the same instruction bytes
   pub kept : ((i : ℕ) → Past T E i → harmful L T E r i ≡ false) → recordOf L E section insns r ≡ recordOf L T section insns r
@@ -171,17 +178,25 @@ pub record Demand3 (L T E : View) (section : ℕ) (insns : List ℕ) (r : Record
 
 -- A list of records
 
--- Each record is settled, on the instructions that those before it leave.
-abbrev pub AllSettled : View → View → ℕ → List ℕ → List Record → Type 0
-AllSettled L T section insns [] = Unit {0}
-AllSettled L T section insns (r ∷ rs) = Settled L T section insns r × AllSettled L T section (recordOf L T section insns r .insns) rs
+abbrev pub anyRefused : List Answer → Bool
+anyRefused [] = false
+anyRefused (a ∷ more) = isRefused a || anyRefused more
+
+unfoldable pub allMatched : View → View → List Record → Bool
+allMatched L T [] = true
+allMatched L T (r ∷ rs) = isMatched L T r && allMatched L T rs
+
+-- A list that is accepted against T, each of its records with a match
+pub record SettledList (L T : View) (section : ℕ) (insns : List ℕ) (rs : List Record) : Type 0 where
+  pub accepted : anyRefused (listOf L T section insns rs .answers) ≡ false
+  pub matched : allMatched L T rs ≡ true
 
 -- No type past the old end is harmful to any of the records.
 abbrev pub Unharmed : View → View → View → List Record → Type 0
 Unharmed L T E [] = Unit {0}
 Unharmed L T E (r ∷ rs) = ((i : ℕ) → Past T E i → harmful L T E r i ≡ false) × Unharmed L T E rs
 
--- The first record of a list that is harmed: those before it, itself, those after it, and the harmful id
+-- The first record of a list that is harmed: the records in front of it, itself, those behind it, and the harmful id
 pub record FirstHarmed (L T E : View) (rs : List Record) : Type 0 where
   pub front : List Record
   pub this : Record
@@ -192,11 +207,7 @@ pub record FirstHarmed (L T E : View) (rs : List Record) : Type 0 where
   pub past : Past T E id
   pub harm : harmful L T E this id ≡ true
 
-abbrev pub anyRefused : List Answer → Bool
-anyRefused [] = false
-anyRefused (a ∷ more) = isRefused a || anyRefused more
-
--- The run up to the first harmed record is the old one, then comes that record's refusal; its bytes are as those before left them.
+-- The records in front go as they went against T, the harmed one is refused with what is due, and changes no byte.
 pub record StoppedAsDue (L T E : View) (section : ℕ) (insns : List ℕ) (front : List Record) (r : Record) (rs : List Record) : Type 0 where
   pub refusal : Refusal
   pub isDue : due L T E r ≡ some refusal
@@ -209,3 +220,31 @@ pub record Demand3List (L T E : View) (section : ℕ) (insns : List ℕ) (rs : L
   pub kept : Unharmed L T E rs → listOf L E section insns rs ≡ listOf L T section insns rs
   pub thenRefused : (h : FirstHarmed L T E rs) → StoppedAsDue L T E section insns (h .front) (h .this) rs
   pub onlyThen : anyRefused (listOf L E section insns rs .answers) ≡ true → FirstHarmed L T E rs
+
+-- Two calls
+
+abbrev pub isDone : Ending → Bool
+isDone Done = true
+isDone (BadBtf w i) = false
+isDone (OverLimit w) = false
+isDone (TableShort w n) = false
+isDone (Stopped k q) = false
+isDone Misshapen = false
+
+-- A call against T that did all of its records, each of them with a match
+pub record SettledCall (L T : View) (rs : List Record) (before : Effect) : Type 0 where
+  pub done : isDone (before .said .ending) ≡ true
+  pub matched : allMatched L T rs ≡ true
+
+-- A call that ended at the harmed record, whose number in the list is also how many were applied
+pub record CallStopped (L T E : View) (section : ℕ) (insns : List ℕ) (front : List Record) (r : Record) (after : Effect) : Type 0 where
+  pub refusal : Refusal
+  pub isDue : due L T E r ≡ some refusal
+  pub numbered : isDueNumber (number refusal) ≡ true
+  pub effect : after ≡ record { said = ended (Stopped (length front) refusal) (length front); insns = listOf L T section insns front .insns }
+
+-- The demand of two calls, against T and against E: what they say and the instructions that they leave
+pub record Demand3Call (L T E : View) (section : ℕ) (insns : List ℕ) (rs : List Record) (before after : Effect) : Type 0 where
+  pub kept : Unharmed L T E rs → after ≡ before
+  pub thenRefused : (h : FirstHarmed L T E rs) → CallStopped L T E section insns (h .front) (h .this) after
+  pub onlyThen : isDone (after .said .ending) ≡ false → FirstHarmed L T E rs

@@ -7,4 +7,5 @@ pub mod Events
 pub mod Fold
 pub mod One
 pub mod Whole
+pub mod Calls
 pub mod Proved
