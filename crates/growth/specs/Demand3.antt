@@ -128,12 +128,13 @@ owed (some q) ids = some q
 owed none [] = none
 owed none (i ∷ more) = some (Conflict i (suc (length more)))
 
+-- The harmful ids past the old end, in order
+unfoldable pub harmfulIds : View → View → View → Record → List ℕ
+harmfulIds L T E r = those (harmful L T E r) (suc (T .count)) (E .count - T .count)
+
 -- The refusal that the types past the old end make due, if any
 unfoldable pub due : View → View → View → Record → Option Refusal
-due L T E r =
-    let first = suc (T .count) in
-    let n = E .count - T .count in
-    owed (firstOwn (gives L E r) first n) (those (harmful L T E r) first n)
+due L T E r = owed (firstOwn (gives L E r) (suc (T .count)) (E .count - T .count)) (harmfulIds L T E r)
 
 -- One of the numbers 10, 11, 14, 16 and 17
 abbrev pub isDueNumber : ℕ → Bool

@@ -158,6 +158,13 @@ module _ (p : ℕ → Bool) where
           further (yes s) = let z : _≡_ {A = ℕ} 0 1 = cc (sym e, ap p s, h) in absurd (omega arith)
           further (no s) = omega arith
 
+  pub those-none-all : (i m : ℕ) → those p i m ≡ [] → (j : ℕ) → i ≤ j → j < i + m → p j ≡ false
+  those-none-all i m h j l k = go (p j) refl
+    where
+      go : (t : Bool) → p j ≡ t → t ≡ false
+      go false e = refl
+      go true e = let x = those-some i m j l k e in cc (h, x .2)
+
   those-one : (i m k : ℕ) (ks : List ℕ) → those p i m ≡ k ∷ ks → One p i m
   unfolding those
   those-one i zero k ks h = let z : _≡_ {A = ℕ} 0 1 = cc in absurd (omega arith)

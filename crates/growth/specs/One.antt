@@ -29,10 +29,10 @@ use Rattle.rules.specs.Refusal.{Reply, ok, refused, bind, number}
 use Rattle.rules.specs.Access.{Access}
 use Rattle.rules.specs.Value.{localValue}
 use Rattle.rules.specs.Record.{over, eventAt, matches, conclude, between, resizing, writing, computed, compute, accessed, relocated, Outcome, refuse, apply, indexOf, inFunction, recordOf}
-use Rattle.growth.specs.Demand3.{causes, harms, givenTo, gives, firstMatch, harmsFirst, harmful, firstOwn, those, owed, due, isDueNumber, isRefused, hasMatch, Past, Settled, RefusedAsDue, Demand3}
+use Rattle.growth.specs.Demand3.{causes, harms, givenTo, gives, firstMatch, harmsFirst, harmful, firstOwn, those, owed, harmfulIds, due, isDueNumber, isRefused, hasMatch, Past, Settled, RefusedAsDue, Demand3}
 use Rattle.growth.specs.Values.{TypingIn, WorthIn}
 use Rattle.growth.specs.Events.{EventIn, MatchesIn, event-at-grow, event-at-in, over-in}
-use Rattle.growth.specs.Fold.{over-more, over-same, unless, concluded, One, Owing, owed-none, owed-some, owed-one}
+use Rattle.growth.specs.Fold.{over-more, over-same, unless, concluded, One, Owing, those-none-all, owed-none, owed-some, owed-one}
 
 -- What is written depends on the types of the two values alone.
 
@@ -189,7 +189,7 @@ module _ {T E : View} (cl : Closed T) (cl′ : Closed E) (ex : Extends T E) {L :
 
   -- In E the record has its first match's value, or is refused with what is due.
   concludes : conclude (r .kind) (firstMatch L E r) ≡ unless (m .value) (due L T E r)
-  unfolding due
+  unfolding due harmfulIds
   concludes =
       rw (first-grow cl ex L r, m .is)
       (concluded (gives L E r) (harmful L T E r) (m .bits) (m .value) harmful-at (r .kind) (suc (T .count)) (E .count - T .count) (m .none))
@@ -211,7 +211,7 @@ module _ {T E : View} (cl : Closed T) (cl′ : Closed E) (ex : Extends T E) {L :
   after-some q h = after ∙ rw h
 
   demand-of-match : isRefused (recordOf L T section insns r .answer) ≡ false → Demand3 L T E section insns r
-  unfolding due
+  unfolding due harmfulIds
   demand-of-match accepted =
       let n = suc (T .count) in
       let k = E .count - T .count in
@@ -234,7 +234,7 @@ module _ {T E : View} (cl : Closed T) (cl′ : Closed E) (ex : Extends T E) {L :
           let z : _≡_ {A = ℕ} 0 1 = cc (sym h, ap (λ (o : Outcome). isRefused (o .answer)) (after-none e), accepted) in absurd (omega arith)
       only (some q) e h =
           let x : One (harmful L T E r) (suc (T .count)) (E .count - T .count) =
-          owed-one (gives L E r) (harmful L T E r) (suc (T .count)) (E .count - T .count) owing q (unfold due in e) .0 in
+          owed-one (gives L E r) (harmful L T E r) (suc (T .count)) (E .count - T .count) owing q (unfold due in unfold harmfulIds in e) .0 in
           (x .id, (x .low, omega (arith, x .high, ex .more)), x .holds)
 
 -- `TypeIdLocal` looks at no target.
@@ -275,3 +275,8 @@ demand3-view {T} {E} cl cl′ ex L section insns r s = go (eqb (r .kind) typeIdL
     go false e h =
         let d : Ready L section insns r = ready L T section insns r (s .accepted) e in
         demand-of-match cl cl′ ex d (first L T section insns r d (s .accepted) h) (s .accepted)
+
+-- Where no id is counted as harmful, none is.
+pub none-harmful : (L T E : View) (r : Record) → harmfulIds L T E r ≡ [] → (i : ℕ) → Past T E i → harmful L T E r i ≡ false
+unfolding harmfulIds
+none-harmful L T E r h i p = those-none-all (harmful L T E r) (suc (T .count)) (E .count - T .count) h i (p .0) (omega (arith, p .1))

@@ -1,0 +1,5 @@
+pub mod Make
+pub mod Worked
+pub mod Variants
+pub mod Computed
+pub mod Met
