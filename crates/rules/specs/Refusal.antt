@@ -8,7 +8,7 @@ use Rattle.rules.specs.declared.Refusal.the-variants.{KindTooBig, NotInF
 use Rattle.rules.specs.Limits.{bitLimit}
 
 -- Document 01's number of a refusal
-unfoldable pub number : Refusal → ℕ
+abbrev pub number : Refusal → ℕ
 number (KindTooBig k) = 4
 number NotInFunction = 5
 number (NoSuccessor i) = 6

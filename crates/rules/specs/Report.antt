@@ -37,7 +37,7 @@ abbrev pub line : String → List ℕ → List ℕ
 line key shown = ascii key ++ shown ++ ascii "\n"
 
 -- Document 01's number of an answer
-unfoldable pub numberOf : Answer → ℕ
+abbrev pub numberOf : Answer → ℕ
 numberOf (Applied v) = 0
 numberOf Poisoned = 0
 numberOf (Refused r) = number r
@@ -69,7 +69,7 @@ report L T section xs rs = reportFrom section 0 rs (listOf L T section xs rs .an
 
 -- Section 9's example
 pub example : lines 0 2 (Applied 16) ++ lines 1 4 (Refused NoMatch) ≡ ascii "record=0\nanswer=0\ninsn=2\nvalue=16\nrecord=1\nanswer=13\ninsn=4\nvalue=none\n"
-unfolding lines numberOf insnShown valueShown decimal decimalIn number
+unfolding lines insnShown valueShown decimal decimalIn
 example = refl
 
 -- The report of a call that was made before: the patched instructions do not tell the values, and are not needed for them.
