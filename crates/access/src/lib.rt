@@ -1,0 +1,2 @@
+// What a record accesses: its access string taken apart, and the walk that its parts lead through the local types.
+pub mod text;
