@@ -1,3 +1,4 @@
+pub mod Offsets
 pub mod Digits
 pub mod Colons
 pub mod Parts

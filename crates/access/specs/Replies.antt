@@ -3,8 +3,10 @@ use Prim.Native.Nat.{ℕ}
 use mathlib.Core.List.{List, [], _∷_}
 use mathlib.Core.Option.{Option, none, some}
 use lib.ListN.{take}
-use Rattle.rules.specs.declared.Refusal.the-variants.{BadAccess, TooManyParts}
+use Rattle.rules.specs.declared.Refusal.the-variants.{BadAccess, TooManyParts, BitsTooBig}
 use Rattle.rules.specs.Refusal.{Reply, ok, refused}
+use Rattle.access.specs.declared.bits.Bits.{Bits}
+use Rattle.access.specs.declared.bits.Bits.the-variants.{At, TooBig}
 use Rattle.access.specs.declared.text.Part.{Part}
 use Rattle.access.specs.declared.text.Part.the-variants as Part
 use Rattle.access.specs.declared.text.Parsing.{Parsing}
@@ -25,3 +27,8 @@ listOf Parsing.TooMany ns = refused TooManyParts
 -- The parts: the first `count` of the table
 abbrev pub partsOf : Parsed → Reply (List ℕ)
 partsOf p = listOf (p .answer) (take (p .count) (p .parts))
+
+-- A bit offset
+abbrev pub bitsOf : Bits → Reply ℕ
+bitsOf (At n) = ok n
+bitsOf TooBig = refused BitsTooBig
