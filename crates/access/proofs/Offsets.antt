@@ -1,12 +1,12 @@
 -- Laws of bit offsets: a sum and a product against the first that is too big.
 -- Assumes nothing.
-use mathlib.Core.Path.{_≡_, refl, sym, ap, _∙_}
-use Prim.Native.Nat.{ℕ, zero, suc, _+_, _-_, _*_, _/_, _≤_, _<_}
-use native.Mathlib.Nat.{mul-comm, mul-assoc, le-div-iff-mul-le, div-lt-iff-lt-mul}
+use mathlib.Core.Path.{_≡_}
+use Prim.Native.Nat.{ℕ, _-_, _*_, _/_, _≤_, _<_}
+use native.Mathlib.Nat.{le-div-iff-mul-le, div-lt-iff-lt-mul}
 use native.Mathlib.Omega.{arith}
 use borrow.Author.Tests.{lt-ltb, le-ltb}
 use Rattle.rules.specs.Limits.{bitLimit}
-use Rattle.rules.specs.Refusal.{Reply, ok, refused, bitOffset}
+use Rattle.rules.specs.Refusal.{ok, refused, bitOffset}
 use Rattle.rules.specs.declared.Refusal.the-variants.{BitsTooBig}
 
 pub small : (n : ℕ) → n < bitLimit → ok n ≡ bitOffset n

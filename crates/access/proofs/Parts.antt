@@ -4,16 +4,16 @@ use mathlib.Core.Path.{_≡_, refl, sym, ap, _∙_}
 use mathlib.Core.Bool.{Bool, true, false, cond}
 use mathlib.Core.List.{List, [], _∷_, _++_}
 use mathlib.Core.Option.{Option, none, some}
-use Prim.Native.Nat.{ℕ, zero, suc, _+_, _-_, _≤_, _<_}
+use Prim.Native.Nat.{ℕ, _+_, _-_, _≤_, _<_}
 use native.Mathlib.Numerals.{add-one}
 use native.Mathlib.Omega.{arith}
-use borrow.Author.Tests.{le-leb, lt-leb, lt-ltb, le-ltb, ltb-true, ltb-false}
-use lib.ListN.{length, getD, take, drop, set, replicate, length-append, length-set}
-use lib.Seq.{take-suc-set, set-out}
-use lib.Dec.{ltb, leb, leb·zero}
-use Rattle.rules.specs.Refusal.{Reply, ok, refused}
+use borrow.Author.Tests.{le-leb, lt-leb, lt-ltb}
+use lib.ListN.{length, take, drop, set, replicate, length-append, length-set}
+use lib.Seq.{take-suc-set}
+use lib.Dec.{ltb, leb·zero}
+use Rattle.rules.specs.Refusal.{ok, refused}
 use Rattle.rules.specs.declared.Refusal.the-variants.{BadAccess, TooManyParts}
-use Rattle.rules.specs.Access.{split, part, also, numbers, counted, parse}
+use Rattle.rules.specs.Access.{split, part, also, numbers, parse}
 use Rattle.access.specs.Text.{toColon}
 use Rattle.access.proofs.Colons.{left, one-more, colon-inside}
 

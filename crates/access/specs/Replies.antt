@@ -1,6 +1,6 @@
 -- What the code's answers say, in the words of the rules.
 use Prim.Native.Nat.{ℕ}
-use mathlib.Core.List.{List, [], _∷_}
+use mathlib.Core.List.{List}
 use mathlib.Core.Option.{Option, none, some}
 use lib.ListN.{take}
 use Rattle.rules.specs.declared.Refusal.the-variants.{BadAccess, TooManyParts, BitsTooBig}

@@ -9,7 +9,7 @@ use native.Mathlib.Nat.{not-suc-le-zero}
 use native.Mathlib.Numerals.{sub-one}
 use lib.ListN.{length, getD, drop}
 use lib.Seq.{drop-cons}
-use lib.Dec.{eqb}
+use lib.Dec.{eqb, leb}
 use Rattle.rules.specs.Kinds.{ARRAY, isModifier, sizedByRef}
 use Rattle.rules.specs.Limits.{maxResolveDepth, maxSpecLen}
 use Rattle.kinds.specs.declared.Entry.{Entry}
@@ -25,11 +25,12 @@ use Rattle.rules.specs.declared.Search.{Search}
 use Rattle.rules.specs.declared.Search.the-variants.{Found, Failed}
 use Rattle.rules.specs.declared.Event.{Event}
 use Rattle.rules.specs.declared.Matches.{Matches}
-use Rattle.rules.specs.declared.Refusal.the-variants.{MaximumNesting}
+use Rattle.rules.specs.declared.Refusal.the-variants.{MaximumNesting, Unresolved}
 use Rattle.rules.specs.Fields.{entryAt, memberBits}
-use Rattle.rules.specs.Refusal.{Reply, bind}
+use Rattle.rules.specs.Refusal.{Reply, ok, refused, bind}
 use Rattle.rules.specs.Types.{chain, resolve, resolved, ownSize, times, elements, isEmpty, sameText, sameFlavourless, andThen, both, meet, pairs, typesWithin, meetFields, fieldsWithin}
 use Rattle.rules.specs.Access.{Walk, localStep, localSteps}
+use Rattle.rules.specs.Value.{aligned, endFrom, bitfieldLoad}
 use Rattle.rules.specs.Matching.{variantNamed, orElse, grown, decided, Sought, atMember, level, membersOf, search}
 use Rattle.rules.specs.Record.{turn, over}
 
@@ -47,6 +48,12 @@ pub elements-turn : (typ : ℕ → Ty) (n c i : ℕ) → 0 < n → elements typ 
     (cond (sizedByRef (typ i .kind)) (elements typ (n - 1) c (typ i .ref)) (Unsized KindWithoutSize i)))
 unfolding elements
 elements-turn typ n c i h = peel (λ j. elements typ j c i) _ (λ j. refl) n h
+
+pub bitfield-turn : (n bits width s : ℕ) → 0 < n → bitfieldLoad n bits width s
+    ≡ cond (leb (endFrom (aligned bits s) bits width) (8 * s)) (ok (record { offset = aligned bits s; size = s; width = width }))
+    (cond (leb 8 s) (refused Unresolved) (bitfieldLoad (n - 1) bits width (2 * s)))
+unfolding bitfieldLoad
+bitfield-turn n bits width s h = peel (λ j. bitfieldLoad j bits width s) _ (λ j. refl) n h
 
 pub types-turn : (L T : ℕ → Ty) (left own a b : ℕ) → 0 < left → typesWithin L T left own a b
     ≡ cond (eqb own 0) Broken (both (meet (typesWithin L T (left - 1) (own - 1)) (typesWithin L T (left - 1) maxResolveDepth)) L T (resolve L a) (resolve T b))

@@ -1,10 +1,11 @@
 -- What a match is worth (document 01, section 6; the crate's compute_field_relocation, compute_enum_relocation, compute_type_relocation).
-use Prim.Native.Nat.{ℕ, zero, suc, _+_, _-_, _*_, _/_, _^_}
+use Prim.Native.Nat.{ℕ, zero, suc, _+_, _-_, _*_, _/_}
 use mathlib.Core.Bool.{Bool, true, false, cond, _&&_}
 use mathlib.Core.List.{List, [], _∷_}
 use mathlib.Core.Option.{Option, none, some}
 use lib.Dec.{leb, eqb}
 use Rattle.rules.specs.Kinds.{INT, ENUM, isEnum, fieldByteOffset, fieldByteSize, fieldExists, fieldSigned, fieldLShift, typeIdTarget, typeExists}
+use Rattle.words.specs.Sign.{extended}
 use Rattle.kinds.specs.declared.Entry.{Entry}
 use Rattle.kinds.specs.Types.{Ty}
 use Rattle.view.specs.View.{View}
@@ -97,13 +98,9 @@ fieldValue typ k a bits =
 
 -- Enums
 
--- 32 bits with their sign extended to 64
-abbrev pub signExtended : ℕ → ℕ
-signExtended n = cond (leb (2 ^ 31) n) (n + (2 ^ 64 - 2 ^ 32)) n
-
--- The value of a variant of the enum t
+-- The value of a variant of the enum t: 32 bits with their sign extended to 64 where it is a signed ENUM, else as it stands
 unfoldable pub variantValue : Ty → Entry → ℕ
-variantValue t e = cond (eqb (t .kind) ENUM && kflag t) (signExtended (rawValue e)) (rawValue e)
+variantValue t e = cond (eqb (t .kind) ENUM && kflag t) (extended (e .low)) (rawValue e)
 
 -- Types
 

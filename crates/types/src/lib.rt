@@ -59,7 +59,7 @@ pub fn is_enum(kind: u32) -> bool
 }
 
 // Whether a kind's third word is its size.
-fn has_size(kind: u32) -> bool
+pub fn has_size(kind: u32) -> bool
     ensures { λ r. ⌜ r ≡ hasSize kind ⌝ }
 {
     kind == BTF_KIND_INT
