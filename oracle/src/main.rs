@@ -1,23 +1,211 @@
-use oracle::{Case, run};
-fn main() {
-    let args: Vec<String> = std::env::args().skip(1).collect();
-    if args[0] == "stats" {
-        let h = oracle::stats::made(args[1].parse().unwrap(), args[2].parse().unwrap(), args.len() < 4);
-        print!("{}", h.print());
-        h.faults.iter().take(20).for_each(|f| println!("{f}"));
-        return;
-    }
-    if args[0] == "blocks" {
-        for i in 0..args[2].parse().unwrap() {
-            let c = oracle::made::case(args[1].parse().unwrap(), i);
-            print!("{}", run(&c, false).block(&i.to_string()));
+//! `oracle COMMAND ...`: see README.md.
+
+use std::{
+    env,
+    fs::{self, File},
+    io::{self, BufWriter, Write},
+    path::{Path, PathBuf},
+    process::ExitCode,
+};
+
+use oracle::{Case, compare, fixed, hand, list, made, reading, run, section8, stats};
+
+const USAGE: &str = "\
+oracle run FILE...                       blocks of case files, of lists, of folders of case files
+oracle gen SEED COUNT DIR                made cases as case files
+oracle batch SEED COUNT LIST BLOCKS      made cases as one list, their blocks as one text
+oracle stats [SEED COUNT]                the histogram of answers (1 20000)
+oracle fixed DIR                         makes the fixed lists
+oracle check LIST...                     runs a list's cases again and compares with its blocks
+oracle hand DIR                          the hand-made cases as case files
+oracle section8 DIR                      section 8's cases and the blocks that it asks for
+oracle split LIST DIR                    a list's cases as case files, their blocks beside them
+oracle compare BLOCKS OTHERS             two texts of blocks, case by case
+oracle read FILE...                      what the crate's own reader says of a BTF";
+
+fn main() -> ExitCode {
+    let args: Vec<String> = env::args().skip(1).collect();
+    let words: Vec<&str> = args.iter().map(String::as_str).collect();
+    let done = match words.as_slice() {
+        ["run", files @ ..] => run_files(files),
+        ["gen", seed, count, dir] => generate(seed, count, dir),
+        ["batch", seed, count, list, blocks] => batch(seed, count, list, blocks),
+        ["stats"] => histogram("1", "20000"),
+        ["stats", seed, count] => histogram(seed, count),
+        ["fixed", dir] => make_fixed(dir),
+        ["check", files @ ..] => check(files),
+        ["hand", dir] => write_cases(dir, hand::cases()),
+        ["section8", dir] => write_section8(dir),
+        ["split", file, dir] => split(file, dir),
+        ["compare", ours, others] => compare_texts(ours, others),
+        ["read", files @ ..] => read_files(files),
+        _ => {
+            eprintln!("{USAGE}");
+            Ok(false)
         }
-        return;
+    };
+    match done {
+        Ok(true) => ExitCode::SUCCESS,
+        Ok(false) => ExitCode::from(1),
+        Err(e) => {
+            eprintln!("{e}");
+            ExitCode::from(2)
+        }
     }
-    for p in &args[1..] {
-        let c = Case::unpack(&std::fs::read(p).unwrap()).unwrap();
-        let r = run(&c, true);
-        print!("{}", r.block(p));
-        for f in r.faults { println!("FAULT {f}"); }
+}
+
+/// Whether everything was as it should be.
+type Done = io::Result<bool>;
+
+fn numbers(seed: &str, count: &str) -> io::Result<(u64, u64)> {
+    match (seed.parse(), count.parse()) {
+        (Ok(seed), Ok(count)) => Ok((seed, count)),
+        _ => Err(io::Error::other("SEED and COUNT are numbers")),
     }
+}
+
+/// The case files of a folder in order of their names, or the file itself.
+fn files_of(path: &str) -> io::Result<Vec<PathBuf>> {
+    if !Path::new(path).is_dir() {
+        return Ok(vec![PathBuf::from(path)]);
+    }
+    let mut files: Vec<PathBuf> = fs::read_dir(path)?.map(|e| e.map(|e| e.path())).collect::<io::Result<_>>()?;
+    files.retain(|f| f.extension().is_some_and(|e| e == "case"));
+    files.sort();
+    Ok(files)
+}
+
+fn run_files(paths: &[&str]) -> Done {
+    let mut out = BufWriter::new(io::stdout().lock());
+    let mut good = true;
+    for path in paths {
+        for file in files_of(path)? {
+            let (bytes, name) = (fs::read(&file)?, file.display().to_string());
+            let cases = match (Case::unpack(&bytes), list::unpack(&bytes)) {
+                (Some(case), _) => vec![(name, case)],
+                (None, Some(entries)) => entries.into_iter().zip(0..).map(|(e, n)| (format!("{name}#{n}"), e.case)).collect(),
+                (None, None) => {
+                    writeln!(out, "case={name}\nbad case file\nend")?;
+                    good = false;
+                    continue;
+                }
+            };
+            for (name, case) in cases {
+                good &= print_block(&mut out, &name, &case)?;
+            }
+        }
+    }
+    Ok(good)
+}
+
+fn print_block(out: &mut impl Write, name: &str, case: &Case) -> Done {
+    let run = run(case, true);
+    out.write_all(run.block(name).as_bytes())?;
+    run.faults.iter().for_each(|fault| eprintln!("self-check: {name}: {fault}"));
+    Ok(run.faults.is_empty())
+}
+
+fn write_cases(dir: &str, cases: impl IntoIterator<Item = (String, Case)>) -> Done {
+    fs::create_dir_all(dir)?;
+    for (name, case) in cases {
+        fs::write(format!("{dir}/{name}.case"), case.pack())?;
+    }
+    Ok(true)
+}
+
+fn generate(seed: &str, count: &str, dir: &str) -> Done {
+    let (seed, count) = numbers(seed, count)?;
+    write_cases(dir, (0..count).map(|i| (format!("{i:07}"), made::case(seed, i))))
+}
+
+fn batch(seed: &str, count: &str, list: &str, blocks: &str) -> Done {
+    let (seed, count) = numbers(seed, count)?;
+    let (mut list, mut blocks) = (BufWriter::new(File::create(list)?), BufWriter::new(File::create(blocks)?));
+    list.write_all(&list::head(count as u32, list::NO_BLOCKS))?;
+    let mut packed = Vec::new();
+    for index in 0..count {
+        let case = made::case(seed, index);
+        blocks.write_all(run(&case, false).block(&index.to_string()).as_bytes())?;
+        packed.clear();
+        list::Entry { origin: index as u32, case, block: String::new() }.pack(&mut packed);
+        list.write_all(&packed)?;
+    }
+    list.flush()?;
+    blocks.flush()?;
+    Ok(true)
+}
+
+fn histogram(seed: &str, count: &str) -> Done {
+    let (seed, count) = numbers(seed, count)?;
+    let histogram = stats::made(seed, count, true);
+    print!("{}", histogram.print());
+    histogram.faults.iter().take(20).for_each(|fault| eprintln!("self-check: {fault}"));
+    let short = histogram.short();
+    short.iter().for_each(|row| println!("too seldom: {row}"));
+    Ok(histogram.faults.is_empty() && (short.is_empty() || count < stats::DEMAND.0))
+}
+
+fn make_fixed(dir: &str) -> Done {
+    let lists = fixed::make();
+    fs::create_dir_all(dir)?;
+    for (name, entries, by) in [("crate.list", &lists.by_crate, list::BY_CRATE), ("by-document-01.list", &lists.by_document, list::BY_DOCUMENT)] {
+        let bytes = list::pack(entries, by);
+        println!("{name}: {} cases, {} bytes", entries.len(), bytes.len());
+        fs::write(format!("{dir}/{name}"), bytes)?;
+    }
+    lists.faults.iter().for_each(|fault| eprintln!("self-check: {fault}"));
+    Ok(lists.faults.is_empty())
+}
+
+fn entries_of(file: &str) -> io::Result<Vec<list::Entry>> {
+    list::unpack(&fs::read(file)?).ok_or_else(|| io::Error::other(format!("{file} is no list")))
+}
+
+fn check(files: &[&str]) -> Done {
+    let mut good = true;
+    for file in files {
+        let entries = entries_of(file)?;
+        let wrong: Vec<usize> = (0..entries.len()).filter(|&i| run(&entries[i].case, false).plain() != entries[i].block).collect();
+        println!("{file}: {} cases, {} differ {:?}", entries.len(), wrong.len(), &wrong[..wrong.len().min(10)]);
+        good &= wrong.is_empty();
+    }
+    Ok(good)
+}
+
+fn split(file: &str, dir: &str) -> Done {
+    fs::create_dir_all(dir)?;
+    for (entry, n) in entries_of(file)?.into_iter().zip(0..) {
+        fs::write(format!("{dir}/{n:05}.case"), entry.case.pack())?;
+        fs::write(format!("{dir}/{n:05}.expected"), entry.block)?;
+    }
+    Ok(true)
+}
+
+fn write_section8(dir: &str) -> Done {
+    let told = section8::cases();
+    let good = told.iter().all(|t| run(&t.case, true).plain() == t.block());
+    fs::create_dir_all(dir)?;
+    for told in told {
+        fs::write(format!("{dir}/{}.case", told.name), told.case.pack())?;
+        fs::write(format!("{dir}/{}.expected", told.name), told.block())?;
+    }
+    let rows = reading::cases();
+    let agreed = rows.iter().filter(|r| run(&r.case, true).outcome == r.outcome).count();
+    println!("section 8 and the crate agree: {good}; {agreed} of {} told outcomes of reading agree", rows.len());
+    Ok(good && agreed == rows.len())
+}
+
+fn compare_texts(ours: &str, others: &str) -> Done {
+    let (ours, others) = (fs::read_to_string(ours)?, fs::read_to_string(others)?);
+    let told = compare::compare(&ours, &others);
+    print!("{}", told.print());
+    Ok(told.differ() == 0)
+}
+
+fn read_files(files: &[&str]) -> Done {
+    for file in files {
+        let bytes = fs::read(file)?;
+        println!("{file}: section 4 {:?}, the crate {}", oracle::section4::read(&bytes).map(|a| a.types), oracle::crate_reads(&bytes));
+    }
+    Ok(true)
 }

@@ -6,6 +6,9 @@ use under_test::probe::Reply;
 
 use crate::{made, run, run::number};
 
+/// Over so many made cases each answer that the crate has comes so often.
+pub const DEMAND: (u64, u64) = (20_000, 50);
+
 /// Answers by record kind, and outcomes.
 #[derive(Default)]
 pub struct Histogram {
@@ -41,6 +44,16 @@ impl Histogram {
             };
             self.count(row);
         }
+    }
+
+    /// The rows that came too seldom.
+    pub fn short(&self) -> Vec<String> {
+        let values = (0..12).map(|kind| format!("answer 0 value, kind {kind:2}"));
+        let poisons = [0, 1, 3, 4, 5, 11].map(|kind| format!("answer 0 poison, kind {kind:2}"));
+        let answers = (4..=14).filter(|&n| n != 12).map(|n| format!("answer {n:2}"));
+        let reasons = (1..=5).map(|reason| format!("answer 12 reason {reason}"));
+        let wanted = values.chain(poisons).chain(answers).chain(reasons);
+        wanted.filter(|row| self.rows.get(row).is_none_or(|&n| n < DEMAND.1)).collect()
     }
 
     pub fn print(&self) -> String {

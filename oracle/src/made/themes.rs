@@ -11,7 +11,7 @@ use crate::case::Case;
 
 /// One theme by weight, then up to five records.
 pub fn any(rng: &mut Rng) -> Case {
-    match rng.weighed(&[50, 18, 8, 6, 4, 4, 3, 2, 5]) {
+    match rng.weighed(&[48, 18, 8, 6, 4, 4, 3, 2, 7]) {
         0 => plain(rng),
         1 => thrown(rng),
         2 => bitfields(rng),
@@ -221,7 +221,8 @@ fn loads(rng: &mut Rng) -> Case {
         0 => Shape::Ptr(Box::new(Shape::Void)),
         1 => Shape::Array(Box::new(world::int(rng)), 2),
         2 => Shape::Float { size: 8 },
-        _ => world::int(rng),
+        3 => world::int(rng),
+        _ => world::unsigned(rng),
     };
     let (a, b) = (member(rng), member(rng));
     let bits = |rng: &mut Rng| if rng.chance(12) { 5 } else { 0 };

@@ -50,6 +50,12 @@ pub fn int(rng: &mut Rng) -> Shape {
     Shape::Int { name, size, extra: size * 8 & 0xff | offset << 16 | encoding << 24 }
 }
 
+/// An unsigned int of any size, the ones that no load has among them.
+pub fn unsigned(rng: &mut Rng) -> Shape {
+    let size = rng.pick(&[1, 2, 4, 8, 4, 8, 3, 16, 3]);
+    Shape::Int { name: "un", size, extra: size * 8 }
+}
+
 pub fn modified(rng: &mut Rng, of: Shape) -> Shape {
     let kind = rng.pick(&MODIFIERS);
     let name = if kind == TYPEDEF { rng.pick(&["t1", "t2", "size_t"]) } else if kind == TYPE_TAG { "user" } else { "" };
