@@ -1,6 +1,9 @@
 //! The fixed lists: section 8, the hand-made cases, and made ones chosen by what they meet.
 
-use std::collections::{BTreeSet, HashMap};
+use std::{
+    cmp::Reverse,
+    collections::{BTreeSet, BinaryHeap, HashMap},
+};
 
 use under_test::probe::Reply;
 
@@ -18,8 +21,8 @@ pub const SEED: u64 = 2026;
 pub const LOOKED_AT: u64 = 120_000;
 /// So many made cases are taken at most, for the crate's list and for document 01's.
 const TAKEN: [usize; 2] = [1_500, 300];
-/// Rounds: in the n-th, a made case is taken if it meets something that fewer than n taken ones meet.
-const ROUNDS: u32 = 8;
+/// Each thing met is wanted so many times.
+const WANTED: u32 = 1;
 /// Made cases above this size are left out.
 const MADE_SIZE: usize = 2_600;
 
@@ -79,26 +82,39 @@ impl Lists {
         if run.is_inside() { self.by_crate.push(entry) } else { self.by_document.push(entry) }
     }
 
-    /// Takes each made case that meets something seldom met, in rounds.
+    /// Takes the made cases that meet most of what is still wanted, one after the other.
     fn made(&mut self) {
         let looked_at = look();
-        let mut met: [HashMap<u64, u32>; 2] = Default::default();
-        let mut taken = [BTreeSet::new(), BTreeSet::new()];
-        for round in 1..=ROUNDS {
-            for seen in &looked_at {
-                let (met, taken) = (&mut met[seen.which], &mut taken[seen.which]);
-                let seldom = seen.meets.iter().any(|m| met.get(m).is_none_or(|&n| n < round));
-                if seldom && taken.len() < TAKEN[seen.which] && taken.insert(seen.index) {
-                    seen.meets.iter().for_each(|&m| *met.entry(m).or_default() += 1);
-                }
+        for (which, most) in TAKEN.iter().enumerate() {
+            let seen: Vec<&Seen> = looked_at.iter().filter(|s| s.which == which).collect();
+            for index in choose(&seen, *most) {
+                let case = made::case(SEED, index);
+                let run = run::run(&case, true);
+                self.put(list::MADE + index as u32, case, &run);
             }
         }
-        for index in taken.into_iter().flatten() {
-            let case = made::case(SEED, index);
-            let run = run::run(&case, true);
-            self.put(list::MADE + index as u32, case, &run);
-        }
     }
+}
+
+/// The indices of the chosen cases, in order. What a case still adds only falls, so an old count is looked at again
+/// when it comes first.
+fn choose(seen: &[&Seen], most: usize) -> BTreeSet<u64> {
+    let mut met: HashMap<u64, u32> = HashMap::new();
+    let mut chosen = BTreeSet::new();
+    let mut queue: BinaryHeap<(usize, Reverse<usize>)> = (0..seen.len()).map(|at| (seen[at].meets.len(), Reverse(at))).collect();
+    while let Some((count, Reverse(at))) = queue.pop() {
+        let adds = seen[at].meets.iter().filter(|m| met.get(m).is_none_or(|&n| n < WANTED)).count();
+        if adds == 0 || chosen.len() == most {
+            continue;
+        }
+        if adds < count {
+            queue.push((adds, Reverse(at)));
+            continue;
+        }
+        chosen.insert(seen[at].index);
+        seen[at].meets.iter().for_each(|&m| *met.entry(m).or_default() += 1);
+    }
+    chosen
 }
 
 /// A made case that may be taken: for which list, and what it meets.
@@ -114,7 +130,7 @@ fn look() -> Vec<Seen> {
         let case = made::case(SEED, index);
         let run = run::run(&case, false);
         if case.size() <= MADE_SIZE && (run.is_inside() || run.is_by_document()) {
-            let meets = meets(&case, &run).iter().map(|m| hash(m)).collect();
+            let meets = meets(&case, &run).iter().map(|m| hash(m)).collect::<BTreeSet<u64>>().into_iter().collect();
             looked_at.push(Seen { index, which: usize::from(!run.is_inside()), meets });
         }
     }
@@ -158,16 +174,21 @@ fn one(turn: &Applied) -> Vec<String> {
         Reply::Value(v) => width(v),
         _ => 99,
     };
+    let class = turn.code & 7;
+    let sized = if (1..=3).contains(&class) { turn.code } else { class };
     vec![
-        format!("type {kind} {sort} {} {}", n.type_kind, n.resolved_kind),
-        format!("last {kind} {sort} {:?} {:?}", n.last_kinds, n.bitfields),
+        format!("type {kind} {sort} {}", n.resolved_kind),
+        format!("own {sort} {}", n.type_kind),
+        format!("last {kind} {sort} {} {:?}", n.last_kinds.0, n.bitfields),
+        format!("pair {sort} {:?}", n.last_kinds),
         format!("matches {kind} {sort} {} {} {}", n.matches.min(3), n.valueless.min(2), n.candidates.min(3)),
         format!("walk {kind} {sort} {} {} {}", n.accessors.min(5), n.last_named, n.unnamed.min(2)),
-        format!("code {sort} {:x}", turn.code),
-        format!("class {kind} {sort} {}", turn.code & 7),
-        format!("sizes {sort} {:?} {}", n.sizes, turn.code & 7),
+        format!("code {sort} {sized:x}"),
+        format!("class {kind} {sort} {class}"),
+        format!("sizes {sort} {} {} {}", n.sizes.0.min(17), n.sizes.1.min(17), (1..=3).contains(&class)),
         format!("value {kind} {value}"),
-        format!("bits {kind} {sort} {} {}", n.target_bits % 8, n.first_index.min(2)),
+        format!("bits {kind} {sort} {}", n.target_bits % 8),
+        format!("first {kind} {sort} {}", n.first_index.min(2)),
         format!("slot {sort} {:?}", turn.insn.map(|i| i.min(3))),
     ]
 }
