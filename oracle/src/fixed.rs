@@ -9,7 +9,7 @@ use under_test::probe::Reply;
 
 use crate::{
     case::Case,
-    hand, list,
+    differences, hand, list,
     list::Entry,
     made, reading,
     run::{self, Applied, Run, number},
@@ -49,6 +49,15 @@ pub fn make() -> Lists {
             lists.faults.push(format!("{}: {} is told, {} comes", told.name, told.outcome, run.outcome));
         }
         lists.hand(list::READING + n, &told.name, told.case);
+    }
+    for (row, n) in differences::rows().into_iter().zip(0..) {
+        let run = run::run(&row.case, true);
+        if differences::summary(&run) != row.told {
+            lists.faults.push(format!("{}: something else comes than is told", row.name));
+        }
+        if run.is_inside() || run.is_by_document() {
+            lists.put(list::DIFFERENCE + n, row.case, &run);
+        }
     }
     lists.made();
     lists

@@ -90,10 +90,8 @@ fn slug(text: &str) -> String {
 
 impl Hand {
     fn full(&mut self, name: &str, l: &mut Btf, t: &Btf, wanted: &[Wanted], insns: &[u8], section: u64) {
-        let records: Vec<u8> = wanted
-            .iter()
-            .flat_map(|&(id, access, kind, at)| record((section as i64 + at) as u32, id, l.name(access), kind))
-            .collect();
+        let records: Vec<u8> =
+            wanted.iter().flat_map(|&(id, access, kind, at)| record((section as i64 + at) as u32, id, l.name(access), kind)).collect();
         let name = format!("{:03}_{name}", self.cases.len() + 1);
         self.cases.push((name, Case { local: l.bytes(), target: t.bytes(), insns: insns.to_vec(), records, section }));
     }
@@ -152,6 +150,8 @@ pub fn cases() -> Vec<(String, Case)> {
     h.instructions();
     h.enums_and_types();
     h.candidates();
+    h.nesting();
+    h.kinds_of_enums();
     h.cases
 }
 
@@ -313,7 +313,8 @@ impl Hand {
 
     /// Names with and without flavours, of types, variants and members.
     fn names(&mut self) {
-        let names = [("a__b", "a"), ("a___b", "a"), ("a___b", "a___c"), ("a____b", "a_"), ("___a", ""), ("a", "a___"), ("a", "b"), ("a_", "a")];
+        let names =
+            [("a__b", "a"), ("a___b", "a"), ("a___b", "a___c"), ("a____b", "a_"), ("___a", ""), ("a", "a___"), ("a", "b"), ("a_", "a")];
         for (i, (local, target)) in names.iter().enumerate() {
             let (mut l, mut t) = pair();
             let id = l.st(local, 4, &[]);
@@ -359,7 +360,12 @@ impl Hand {
 
     /// Bit offsets at and below 2^32.
     fn bit_offsets(&mut self) {
-        let rows = [("local_2_32", 1u64 << 30, 0, false), ("local_below", (1 << 30) - 1, 2, false), ("target_2_32", 1 << 27, 0, true), ("target_below", (1 << 27) - 1, 0, true)];
+        let rows = [
+            ("local_2_32", 1u64 << 30, 0, false),
+            ("local_below", (1 << 30) - 1, 2, false),
+            ("target_2_32", 1 << 27, 0, true),
+            ("target_below", (1 << 27) - 1, 0, true),
+        ];
         for (name, index, kind, both) in rows {
             let (mut l, mut t) = pair();
             let id = l.plain("i", 4);
@@ -629,6 +635,50 @@ impl Hand {
         let empty = t.strings.len() as u32 - 1;
         t.add(4, "s", 8, 1, false, &[empty, inner, 64]);
         self.case("empty_name_target", &mut l, &t, id, "0:0", 0);
+    }
+}
+
+impl Hand {
+    /// The target's parts at 64, before a member and before an index, and past 64 without ever being equal to it.
+    fn nesting(&mut self) {
+        let (mut l, mut t) = pair_with_int();
+        l.arrays(5, 3);
+        l.st("s", 64, &[("x", 5, 0), ("a", 4, 0), ("y", 5, 0), ("e", 6, 0)]);
+        l.st("q", 4, &[("m", 1, 0)]);
+        t.arrays(5, 3);
+        t.st("s", 64, &[("", 7, 0), ("a", 4, 0), ("y", 5, 0), ("e", 6, 0)]);
+        t.st("q", 4, &[]);
+        t.st("", 64, &[("", 8, 0)]);
+        t.st("", 64, &[("x", 5, 0)]);
+        let rows = [
+            ("member_at_64", 21, ":0"),
+            ("member_to_64", 21, ""),
+            ("index_at_64", 20, ":1:0:0:0"),
+            ("index_to_64", 20, ":1:0:0"),
+            ("past_64", 20, ":2:0:0:0:0:2:1:0"),
+            ("no_member_at_64", 20, ":2:2:3:0"),
+            ("member_at_63", 20, ":2:2:3"),
+        ];
+        for (name, times, then) in rows {
+            let access = format!("0{}{then}", ":0".repeat(times));
+            self.case(&format!("nesting_{name}"), &mut l, &t, 5, &access, 2);
+        }
+    }
+
+    /// ENUM and ENUM64 the other way round, an alias of no enum, equal names at two levels.
+    fn kinds_of_enums(&mut self) {
+        let wide = |b: &mut Btf| b.enum64("e", false, &[("A", 1)]);
+        let narrow = |b: &mut Btf| b.enumeration("e", 4, false, &[("A", 1)]);
+        self.field("enum64_enum", &wide, &narrow, &[0, 2]);
+        self.whole("enum64_enum", &wide, &narrow, &[8, 9, 10, 11]);
+        self.whole("enum_enum64_variant", &narrow, &wide, &[10, 11]);
+        self.whole("enum_int_variant", &narrow, &|b| b.plain("e", 4), &[10, 11]);
+        self.whole("enum_union_variant", &narrow, &|b| b.group(5, "e", 4, false, &[("A", 1, 0)]), &[10, 11]);
+        let (mut l, mut t) = pair_with_int();
+        let id = l.st("s", 8, &[("x", 1, 0)]);
+        let first = t.st("", 4, &[("x", 1, 0)]);
+        t.st("s", 16, &[("", first, 64), ("x", 1, 0), ("", first, 32)]);
+        self.case("inner_name_first", &mut l, &t, id, "0:0", 0);
     }
 }
 

@@ -3,6 +3,7 @@
 pub mod case;
 pub mod checks;
 pub mod compare;
+pub mod differences;
 pub mod fixed;
 pub mod hand;
 pub mod list;

@@ -19,7 +19,8 @@ pub const BY_DOCUMENT: u32 = 2;
 pub const SECTION8: u32 = 1 << 24;
 pub const HAND: u32 = 2 << 24;
 pub const READING: u32 = 3 << 24;
-pub const MADE: u32 = 4 << 24;
+pub const DIFFERENCE: u32 = 4 << 24;
+pub const MADE: u32 = 5 << 24;
 
 pub struct Entry {
     pub origin: u32,

@@ -8,7 +8,7 @@ use std::{
     process::ExitCode,
 };
 
-use oracle::{Case, compare, fixed, hand, list, made, reading, run, section8, stats};
+use oracle::{Case, compare, differences, fixed, hand, list, made, reading, run, section8, stats, timing};
 
 const USAGE: &str = "\
 oracle run FILE...                       blocks of case files, of lists, of folders of case files
@@ -21,7 +21,9 @@ oracle hand DIR                          the hand-made cases as case files
 oracle section8 DIR                      section 8's cases and the blocks that it asks for
 oracle split LIST DIR                    a list's cases as case files, their blocks beside them
 oracle compare BLOCKS OTHERS             two texts of blocks, case by case
-oracle read FILE...                      what the crate's own reader says of a BTF";
+oracle read FILE...                      what the crate's own reader says of a BTF
+oracle bare FILE...                      the crate's public call alone, nothing guarded: it may end the process
+oracle differences DIR                   the smallest inputs of docs/DIFFERENCES.md and what comes of them";
 
 fn main() -> ExitCode {
     let args: Vec<String> = env::args().skip(1).collect();
@@ -39,6 +41,8 @@ fn main() -> ExitCode {
         ["split", file, dir] => split(file, dir),
         ["compare", ours, others] => compare_texts(ours, others),
         ["read", files @ ..] => read_files(files),
+        ["bare", files @ ..] => bare(files),
+        ["differences", dir] => write_differences(dir),
         _ => {
             eprintln!("{USAGE}");
             Ok(false)
@@ -148,7 +152,9 @@ fn histogram(seed: &str, count: &str) -> Done {
 fn make_fixed(dir: &str) -> Done {
     let lists = fixed::make();
     fs::create_dir_all(dir)?;
-    for (name, entries, by) in [("crate.list", &lists.by_crate, list::BY_CRATE), ("by-document-01.list", &lists.by_document, list::BY_DOCUMENT)] {
+    for (name, entries, by) in
+        [("crate.list", &lists.by_crate, list::BY_CRATE), ("by-document-01.list", &lists.by_document, list::BY_DOCUMENT)]
+    {
         let bytes = list::pack(entries, by);
         println!("{name}: {} cases, {} bytes", entries.len(), bytes.len());
         fs::write(format!("{dir}/{name}"), bytes)?;
@@ -165,7 +171,11 @@ fn check(files: &[&str]) -> Done {
     let mut good = true;
     for file in files {
         let entries = entries_of(file)?;
-        let wrong: Vec<usize> = (0..entries.len()).filter(|&i| run(&entries[i].case, false).plain() != entries[i].block).collect();
+        let agrees = |entry: &list::Entry| {
+            let run = run(&entry.case, true);
+            run.faults.is_empty() && run.plain() == entry.block
+        };
+        let wrong: Vec<usize> = (0..entries.len()).filter(|&i| !agrees(&entries[i])).collect();
         println!("{file}: {} cases, {} differ {:?}", entries.len(), wrong.len(), &wrong[..wrong.len().min(10)]);
         good &= wrong.is_empty();
     }
@@ -208,4 +218,30 @@ fn read_files(files: &[&str]) -> Done {
         println!("{file}: section 4 {:?}, the crate {}", oracle::section4::read(&bytes).map(|a| a.types), oracle::crate_reads(&bytes));
     }
     Ok(true)
+}
+
+fn bare(files: &[&str]) -> Done {
+    for file in files {
+        let case = Case::unpack(&fs::read(file)?).ok_or_else(|| io::Error::other(format!("{file} is no case")))?;
+        let prepared = timing::Prepared::new(&case.local, &case.insns, case.section, &case.records);
+        let (Some(mut prepared), Some(target)) = (prepared, timing::Read::new(&case.target)) else {
+            println!("{file}: not read");
+            continue;
+        };
+        let said = prepared.relocate_caught(&target).map_or("panics", |accepted| if accepted { "accepts" } else { "refuses" });
+        println!("{file}: {said}");
+    }
+    Ok(true)
+}
+
+fn write_differences(dir: &str) -> Done {
+    fs::create_dir_all(dir)?;
+    let mut good = true;
+    for row in differences::rows() {
+        fs::write(format!("{dir}/{}.case", row.name), row.case.pack())?;
+        let said = differences::summary(&run(&row.case, true));
+        good &= said == row.told;
+        println!("{} {:32} {said}", if said == row.told { " " } else { "!" }, row.name);
+    }
+    Ok(good)
 }

@@ -87,25 +87,73 @@ fn second_element() -> Case {
 
 /// Every line of section 8, in its order.
 pub fn cases() -> Vec<Told> {
-    let told = |name, case, values: &[&'static str], outcome, insns: &str| Told { name, case, values: values.to_vec(), outcome, insns: insns.to_string() };
+    let told = |name, case, values: &[&'static str], outcome, insns: &str| Told {
+        name,
+        case,
+        values: values.to_vec(),
+        outcome,
+        insns: insns.to_string(),
+    };
     let imm = |n: u8| format!("b7010000{n:02x}000000");
     vec![
         told("01_parts_0_1", two_ints("0:1", 0), &["4"], "outcome=0 applied=1", MOV),
         told("02_part_plus_2", variants("+2"), &["7"], "outcome=0 applied=1", &imm(7)),
         told("03_empty", two_ints("", 0), &["none"], "outcome=7 record=0 applied=0", MOV),
         told("04_empty_part", two_ints("0::1", 0), &["none"], "outcome=7 record=0 applied=0", MOV),
-        told("05_part_2_64_less_1", variants("18446744073709551615"), &["none"], "outcome=8 index=18446744073709551615 count=3 applied=0", MOV),
+        told(
+            "05_part_2_64_less_1",
+            variants("18446744073709551615"),
+            &["none"],
+            "outcome=8 index=18446744073709551615 count=3 applied=0",
+            MOV,
+        ),
         told("06_part_2_64", variants("18446744073709551616"), &["none"], "outcome=7 record=0 applied=0", MOV),
-        told("07_bits_35_size_5", bitfield(35, 5), &["4", "4", "56", "59"], "outcome=0 applied=4", &[imm(4), imm(4), imm(56), imm(59)].concat()),
-        told("08_bits_30_size_4", bitfield(30, 4), &["0", "8", "30", "60"], "outcome=0 applied=4", &[imm(0), imm(8), imm(30), imm(60)].concat()),
+        told(
+            "07_bits_35_size_5",
+            bitfield(35, 5),
+            &["4", "4", "56", "59"],
+            "outcome=0 applied=4",
+            &[imm(4), imm(4), imm(56), imm(59)].concat(),
+        ),
+        told(
+            "08_bits_30_size_4",
+            bitfield(30, 4),
+            &["0", "8", "30", "60"],
+            "outcome=0 applied=4",
+            &[imm(0), imm(8), imm(30), imm(60)].concat(),
+        ),
         told("09_imm_16", at_16((4, 0), (4, 0), MOV), &["16"], "outcome=0 applied=1", &imm(16)),
-        told("10_source_register", at_16((4, 0), (4, 0), "b711000004000000"), &["none"], "outcome=12 reason=1 applied=0", "b711000004000000"),
+        told(
+            "10_source_register",
+            at_16((4, 0), (4, 0), "b711000004000000"),
+            &["none"],
+            "outcome=12 reason=1 applied=0",
+            "b711000004000000",
+        ),
         told("11_load_4_to_8", at_16((4, 0), (8, 0), "6112080000000000"), &["16"], "outcome=0 applied=1", "7912100000000000"),
-        told("12_load_target_signed", at_16((4, 0), (8, 1), "6112080000000000"), &["none"], "outcome=12 reason=3 applied=0", "6112100000000000"),
+        told(
+            "12_load_target_signed",
+            at_16((4, 0), (8, 1), "6112080000000000"),
+            &["none"],
+            "outcome=12 reason=3 applied=0",
+            "6112100000000000",
+        ),
         told("13_off_32767", variant(false, 32767, "6112080000000000"), &["32767"], "outcome=0 applied=1", "6112ff7f00000000"),
         told("14_off_32768", variant(false, 32768, "6112080000000000"), &["none"], "outcome=12 reason=2 applied=0", "6112080000000000"),
-        told("15_wide_signed", variant(true, -1, LDDW), &["18446744073709551615"], "outcome=0 applied=1", "18010000ffffffff00000000ffffffff"),
-        told("16_wide_unsigned", variant(false, 0xffff_ffff, LDDW), &["4294967295"], "outcome=0 applied=1", "18010000ffffffff0000000000000000"),
+        told(
+            "15_wide_signed",
+            variant(true, -1, LDDW),
+            &["18446744073709551615"],
+            "outcome=0 applied=1",
+            "18010000ffffffff00000000ffffffff",
+        ),
+        told(
+            "16_wide_unsigned",
+            variant(false, 0xffff_ffff, LDDW),
+            &["4294967295"],
+            "outcome=0 applied=1",
+            "18010000ffffffff0000000000000000",
+        ),
         told("17_second_element", second_element(), &["none"], "outcome=14 record=0 applied=0", MOV),
     ]
 }
@@ -114,7 +162,8 @@ impl Told {
     /// The block that section 8 asks for, without its first line.
     pub fn block(&self) -> String {
         let number = self.outcome.trim_start_matches("outcome=").split(' ').next().unwrap_or_default();
-        let lines: String = self.values.iter().enumerate().map(|(i, value)| format!("record={i}\nanswer={number}\ninsn={i}\nvalue={value}\n")).collect();
+        let lines: String =
+            self.values.iter().enumerate().map(|(i, value)| format!("record={i}\nanswer={number}\ninsn={i}\nvalue={value}\n")).collect();
         format!("{lines}{}\ninsns={}\nend\n", self.outcome, self.insns)
     }
 }

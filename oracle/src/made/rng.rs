@@ -33,10 +33,13 @@ impl Rng {
     /// An index of a table of weights.
     pub fn weighed(&mut self, weights: &[usize]) -> usize {
         let mut at = self.below(weights.iter().sum());
-        weights.iter().position(|&w| {
-            let here = at < w;
-            at = at.wrapping_sub(w);
-            here
-        }).expect("within the sum")
+        weights
+            .iter()
+            .position(|&w| {
+                let here = at < w;
+                at = at.wrapping_sub(w);
+                here
+            })
+            .expect("within the sum")
     }
 }

@@ -1,9 +1,6 @@
 //! Types thrown together: any kind may refer to any id, circles included.
 
-use super::{
-    rng::Rng,
-    types::*,
-};
+use super::{rng::Rng, types::*};
 
 const NAMES: [&str; 6] = ["a", "b", "s", "a___1", "b___2", "s___v"];
 

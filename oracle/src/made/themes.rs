@@ -68,11 +68,14 @@ fn named(name: &str, shape: Shape, bits: u32) -> Field {
 fn bitfields(rng: &mut Rng) -> Case {
     let fields = |rng: &mut Rng| {
         let names = ["a", "b", "c", "d"];
-        names.iter().map(|n| {
-            let widest = rng.pick(&[4, 9, 17, 33, 64]);
-            let bits = if rng.chance(80) { 1 + rng.below(widest) as u32 } else { 0 };
-            named(n, world::int(rng), bits)
-        }).collect::<Vec<_>>()
+        names
+            .iter()
+            .map(|n| {
+                let widest = rng.pick(&[4, 9, 17, 33, 64]);
+                let bits = if rng.chance(80) { 1 + rng.below(widest) as u32 } else { 0 };
+                named(n, world::int(rng), bits)
+            })
+            .collect::<Vec<_>>()
     };
     let local = vec![group("s", rng.chance(10), fields(rng))];
     let target = if rng.chance(30) { local.clone() } else { vec![group("s", rng.chance(10), fields(rng))] };
@@ -83,7 +86,8 @@ fn bitfields(rng: &mut Rng) -> Case {
 /// Arrays in arrays, and zero-length ones, last and not.
 fn arrays(rng: &mut Rng) -> Case {
     let array = |rng: &mut Rng| {
-        let mut shape = if rng.chance(70) { world::int(rng) } else { Shape::Inline(Box::new(group("", false, vec![named("v", world::int(rng), 0)]))) };
+        let mut shape =
+            if rng.chance(70) { world::int(rng) } else { Shape::Inline(Box::new(group("", false, vec![named("v", world::int(rng), 0)]))) };
         for _ in 0..1 + rng.below(3) {
             shape = Shape::Array(Box::new(shape), rng.pick(&[0, 0, 1, 2, 3, 4]));
         }
@@ -130,11 +134,8 @@ fn chain(rng: &mut Rng, length: usize, wrap: usize) -> Shape {
 /// A struct that holds itself, walked far: the target's parts grow faster than the local ones.
 fn long_access(rng: &mut Rng) -> Case {
     let own = |rng: &mut Rng, deepest: usize| {
-        let mut fields = vec![
-            named("x", Shape::Named(0), 0),
-            named("a", Shape::Array(Box::new(Shape::Named(0)), 2), 0),
-            named("y", world::int(rng), 0),
-        ];
+        let mut fields =
+            vec![named("x", Shape::Named(0), 0), named("a", Shape::Array(Box::new(Shape::Named(0)), 2), 0), named("y", world::int(rng), 0)];
         for field in &mut fields {
             for _ in 0..rng.below(deepest + 1) {
                 let inner = group("", false, vec![field.clone()]);

@@ -1,9 +1,6 @@
 //! Types as a program declares them, and how another kernel declares them a little otherwise.
 
-use super::{
-    rng::Rng,
-    types::*,
-};
+use super::{rng::Rng, types::*};
 
 #[derive(Clone, Debug)]
 pub enum Shape {
@@ -43,8 +40,18 @@ const FLAVOURS: [&str; 6] = ["___v1", "___v2", "___", "____x", "___v1___v2", "__
 
 pub fn int(rng: &mut Rng) -> Shape {
     let (name, size, encoding) = rng.pick(&[
-        ("int", 4, 1), ("unsigned int", 4, 0), ("u8", 1, 0), ("char", 1, 2), ("bool", 1, 4), ("short", 2, 1), ("u16", 2, 0),
-        ("u64", 8, 0), ("long", 8, 1), ("u32", 4, 0), ("u128", 16, 0), ("u24", 3, 0),
+        ("int", 4, 1),
+        ("unsigned int", 4, 0),
+        ("u8", 1, 0),
+        ("char", 1, 2),
+        ("bool", 1, 4),
+        ("short", 2, 1),
+        ("u16", 2, 0),
+        ("u64", 8, 0),
+        ("long", 8, 1),
+        ("u32", 4, 0),
+        ("u128", 16, 0),
+        ("u24", 3, 0),
     ]);
     let offset = if rng.chance(2) { 8 } else { 0 };
     Shape::Int { name, size, extra: size * 8 & 0xff | offset << 16 | encoding << 24 }
@@ -58,7 +65,13 @@ pub fn unsigned(rng: &mut Rng) -> Shape {
 
 pub fn modified(rng: &mut Rng, of: Shape) -> Shape {
     let kind = rng.pick(&MODIFIERS);
-    let name = if kind == TYPEDEF { rng.pick(&["t1", "t2", "size_t"]) } else if kind == TYPE_TAG { "user" } else { "" };
+    let name = if kind == TYPEDEF {
+        rng.pick(&["t1", "t2", "size_t"])
+    } else if kind == TYPE_TAG {
+        "user"
+    } else {
+        ""
+    };
     Shape::Modified { kind, name, of: Box::new(of) }
 }
 
@@ -67,7 +80,7 @@ pub fn shape(rng: &mut Rng, depth: usize, known: usize) -> Shape {
     if depth == 0 {
         return int(rng);
     }
-    match rng.weighed(&[40, 12, 12, 10, 12, 3, 2, 2, 7]) {
+    match rng.weighed(&[38, 12, 12, 10, 12, 3, 2, 2, 7, 4]) {
         0 => int(rng),
         1 => Shape::Ptr(Box::new(if rng.chance(20) { Shape::Void } else { shape(rng, depth - 1, known) })),
         2 => {
@@ -82,6 +95,10 @@ pub fn shape(rng: &mut Rng, depth: usize, known: usize) -> Shape {
         5 => Shape::Float { size: rng.pick(&[4, 8]) },
         6 => Shape::Fwd(rng.pick(&["fwd", "fwd___1", "other"])),
         7 => Shape::Ptr(Box::new(proto(rng, depth - 1, known))),
+        9 => {
+            let name = rng.pick(&["e", "e___1", "g", ""]).to_string();
+            Shape::Inline(Box::new(enumeration(rng, name)))
+        }
         _ => Shape::Inline(Box::new(group(rng, String::new(), depth - 1, known))),
     }
 }
@@ -240,7 +257,7 @@ fn vary_enum(rng: &mut Rng, wide: &mut bool, signed: &mut bool, variants: &mut V
         2 | 3 if count > 0 => variants[rng.below(count)].1 = value(rng),
         4 if count > 0 => variants[rng.below(count)].0 += rng.pick(&FLAVOURS),
         5 => *signed = !*signed,
-        6 if rng.chance(40) => *wide = !*wide,
+        6 => *wide = !*wide,
         _ => variants.insert(0, (rng.pick(&VARIANT_NAMES).to_string(), value(rng))),
     }
 }
@@ -352,7 +369,9 @@ impl Lowering<'_> {
                 self.types[id - 1] = self.declared(decl);
                 return id as u32;
             }
-            Shape::Int { name, size, extra } => Type { kind: INT, name: name.to_string(), third: *size, extra: vec![*extra], ..Type::default() },
+            Shape::Int { name, size, extra } => {
+                Type { kind: INT, name: name.to_string(), third: *size, extra: vec![*extra], ..Type::default() }
+            }
             Shape::Float { size } => Type { kind: FLOAT, name: "float".to_string(), third: *size, ..Type::default() },
             Shape::Fwd(name) => Type { kind: FWD, name: name.to_string(), ..Type::default() },
             Shape::Ptr(of) => Type { kind: PTR, third: self.shape(of), ..Type::default() },
@@ -388,7 +407,13 @@ impl Lowering<'_> {
 
     fn declared_size(&self, decl: &Decl, depth: usize) -> u64 {
         match decl {
-            Decl::Enum { wide, .. } => if *wide { 8 } else { 4 },
+            Decl::Enum { wide, .. } => {
+                if *wide {
+                    8
+                } else {
+                    4
+                }
+            }
             Decl::Alias { of, .. } => self.size(of, depth),
             Decl::Group { union, fields, .. } => {
                 let (mut at, mut size) = (0, 0);

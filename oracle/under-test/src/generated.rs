@@ -43,12 +43,7 @@ pub struct bpf_insn {
 
 impl bpf_insn {
     pub fn from_bytes(b: [u8; 8]) -> Self {
-        Self {
-            code: b[0],
-            regs: b[1],
-            off: i16::from_le_bytes([b[2], b[3]]),
-            imm: i32::from_le_bytes([b[4], b[5], b[6], b[7]]),
-        }
+        Self { code: b[0], regs: b[1], off: i16::from_le_bytes([b[2], b[3]]), imm: i32::from_le_bytes([b[4], b[5], b[6], b[7]]) }
     }
 
     pub fn to_bytes(self) -> [u8; 8] {

@@ -17,9 +17,7 @@ pub fn derive(item: TokenStream) -> TokenStream {
             TokenTree::Ident(ident) => variant = ident.to_string(),
             TokenTree::Group(group) if group.delimiter() == Delimiter::Parenthesis => {
                 if let Some(from) = marked(group.stream()) {
-                    out += &format!(
-                        "impl From<{from}> for {name} {{ fn from(e: {from}) -> Self {{ Self::{variant}(e) }} }}"
-                    );
+                    out += &format!("impl From<{from}> for {name} {{ fn from(e: {from}) -> Self {{ Self::{variant}(e) }} }}");
                 }
             }
             _ => {}
@@ -39,6 +37,5 @@ fn braced(token: &TokenTree) -> Option<TokenStream> {
 fn marked(fields: TokenStream) -> Option<String> {
     let mut fields = fields.into_iter();
     let (hash, mark) = (fields.next()?, fields.next()?);
-    (hash.to_string() == "#" && mark.to_string() == "[from]")
-        .then(|| fields.collect::<TokenStream>().to_string())
+    (hash.to_string() == "#" && mark.to_string() == "[from]").then(|| fields.collect::<TokenStream>().to_string())
 }
