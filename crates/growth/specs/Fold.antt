@@ -224,7 +224,7 @@ module _ (f : ℕ → Event) (p : ℕ → Bool) where
     owed-one q h = go (firstOwn f i m) refl (those p i m) refl h
       where
         conflict : (k n : ℕ) → Conflict k n ≡ q → isDueNumber (number q) ≡ true
-        conflict k n e = unfold number in rw (← e)
+        conflict k n e = rw (← e)
 
         go : (x : Option Refusal) → firstOwn f i m ≡ x → (ids : List ℕ) → those p i m ≡ ids → owed x ids ≡ some q → One p i m × (isDueNumber (number q) ≡ true)
         go (some q′) e ids g t =

@@ -33,19 +33,19 @@ use Rattle.growth.specs.Types.{Low, resolved-same, resolve-low, resolve-
 -- The four refusals that a candidate causes
 
 pub causes-nesting : (i : ℕ) → causes (MaximumNesting i) ≡ true
-unfolding causes number
+unfolding causes
 causes-nesting i = refl
 
 pub causes-unresolved : causes Unresolved ≡ true
-unfolding causes number
+unfolding causes
 causes-unresolved = refl
 
 pub causes-bits : causes BitsTooBig ≡ true
-unfolding causes number
+unfolding causes
 causes-bits = refl
 
 pub causes-deep : causes TooDeep ≡ true
-unfolding causes number
+unfolding causes
 causes-deep = refl
 
 -- A place of the walk at ids of the view

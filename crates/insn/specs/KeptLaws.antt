@@ -9,7 +9,7 @@ use mathlib.Core.Option.{Option, none, some}
 use native.Mathlib.Omega.{arith}
 use lib.Dec.{T, eqb, ltb}
 use borrow.Author.Tests.{lt-ltb, ltb-true}
-use Rattle.kinds.proofs.Keys.{split}
+use Rattle.kinds.specs.Keys.{split}
 use lib.ListN.{length, getD, take, drop, set, length-set, length-take, length-drop, length-append, take-append-drop, drop-of-length-le}
 use lib.Seq.{sets, take-set-lt, drop-set-lt, getD-take, take-all, length-take-le, take-add, take-at, drop-at, take-take, take-append-add, drop-append-add, drop-drop}
 use Rattle.words.specs.Num.{Order, little}
