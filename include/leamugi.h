@@ -38,12 +38,12 @@ extern "C" {
 uint32_t leamugi_read(const uint8_t *btf, size_t btf_len, uint32_t *table, size_t table_len, uint64_t *said, size_t said_len);
 
 /* What stands at a type id of a BTF that was read. Answers the kind, 0 for void and for an id past the last;
- * said[0..5] = where the name begins in the bytes and its length, the size, the type referred to, how many entries. */
+ * said[0..5] = the name's offset in the strings and its length, the size, the type referred to, how many entries. */
 uint32_t leamugi_type(const uint8_t *btf, size_t btf_len, const uint32_t *table, size_t table_len, const uint64_t *read,
                       size_t read_len, uint32_t id, uint64_t *said, size_t said_len);
 
-/* The k-th member, variant, parameter or variable of a type. Answers its type id; said[0..4] = where its name begins in
- * the bytes and its length, a member's offset word or the low half of a variant's value, the high half. */
+/* The k-th member, variant, parameter or variable of a type. Answers its type id; said[0..4] = its name's offset in
+ * the strings and its length, a member's offset word or the low half of a variant's value, the high half. */
 uint32_t leamugi_entry(const uint8_t *btf, size_t btf_len, const uint32_t *table, size_t table_len, const uint64_t *read,
                        size_t read_len, uint32_t id, uint32_t k, uint64_t *said, size_t said_len);
 

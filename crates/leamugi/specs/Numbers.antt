@@ -2,11 +2,13 @@
 use Prim.Native.Nat.{ℕ, zero, suc, _%_, _^_}
 use mathlib.Core.List.{List, [], _∷_}
 use mathlib.Core.Path.{_≡_}
-use lib.ListN.{getD, set}
+use lib.ListN.{length, getD, set}
 use lib.Seq.{sets}
 use Rattle.btf.specs.declared.Btf.{Btf}
 use Rattle.btf.specs.declared.Answer.{Answer}
 use Rattle.btf.specs.declared.Answer.the-variants.{Read, Bad, Over, TooShort}
+use Rattle.view.specs.View.{View}
+use Rattle.view.specs.Places.{noEntry}
 use Rattle.leamugi.specs.declared.Numbers.{Numbers}
 
 -- A number, and five beside it
@@ -31,6 +33,16 @@ btfOf ns = record {
   strings = record { start = getD ns 2 0; size = getD ns 3 0 };
   last = getD ns 4 0 % 2 ^ 32;
 }
+
+-- What stands at an id: its kind; the name's offset in the strings and its length, the size, the type referred to, how many entries
+unfoldable pub typeNumbers : View → ℕ → Numbers
+typeNumbers T i =
+    let t = T .typ i in said (t .kind) (t .name) (length (T .text (t .name))) (t .size) (t .ref) (length (t .entries))
+
+-- The k-th entry: its type; its name's offset and length, its two words
+unfoldable pub entryNumbers : View → ℕ → ℕ → Numbers
+entryNumbers T i k =
+    let e = getD (T .typ i .entries) k noEntry in said (e .typ) (e .name) (length (T .text (e .name))) (e .low) (e .high) 0
 
 -- Five stores, one after the other
 pub stored : (xs : List ℕ) {l m n o p : List ℕ} (v : Numbers) → l ≡ set xs 0 (v .a) → m ≡ set l 1 (v .b) → n ≡ set m 2 (v .c) → o ≡ set n 3 (v .d)

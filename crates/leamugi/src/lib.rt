@@ -15,8 +15,10 @@ ghost use mathlib.Core.Path.{_≡_};
 ghost use lib.ListN.{length, set, getD};
 ghost use lib.Seq.{sets};
 ghost use Rattle.btf.specs.Table.{decode, tabled};
+ghost use Rattle.btf.specs.Sections.{stringsIn};
+ghost use Rattle.view.specs.Text.{textAt};
 ghost use Rattle.view.specs.View.{tabView};
-ghost use Rattle.leamugi.specs.Numbers.{said, five, btfOf, readNumbers};
+ghost use Rattle.leamugi.specs.Numbers.{said, five, btfOf, readNumbers, typeNumbers, entryNumbers};
 
 // An answer's number and the five beside it.
 pub struct Numbers {
@@ -69,7 +71,14 @@ fn reading_numbers(answer: Answer) -> Numbers
         Answer::Read(btf) => {
             let t = btf.types;
             let z = btf.strings;
-            said_numbers(0, t.start as u64, t.size as u64, z.start as u64, z.size as u64, btf.last as u64)
+            said_numbers(
+                0,
+                t.start as u64,
+                t.size as u64,
+                z.start as u64,
+                z.size as u64,
+                btf.last as u64,
+            )
         }
         Answer::Bad(id) => said_numbers(1, id as u64, 0, 0, 0, 0),
         Answer::Over => said_numbers(2, 0, 0, 0, 0, 0),
@@ -111,6 +120,87 @@ pub extern "C" fn leamugi_read(btf: &[u8], table: &mut [u32], said: &mut [u64]) 
     ensures said { λ _. ⌜ now (said .exit) ≡ sets (now (said .entry)) 0 (five (readNumbers (decode (now (btf .entry)) (length (now (table .entry)))))) ⌝ }
 {
     let n = reading_numbers(read(btf, table));
+    put_five(said, n);
+    n.number
+}
+
+// How long the name at an offset of the strings is.
+fn name_length(bytes: &[u8], btf: Btf, name: u32) -> u64
+    ensures { λ r. ⌜ r ≡ length (textAt (stringsIn (now (bytes .entry)) btf) name) ⌝ }
+{
+    text_of(bytes, btf, name).len() as u64
+}
+
+// What stands at an id.
+fn type_numbers(bytes: &[u8], table: &[u32], btf: Btf, id: u32) -> Numbers
+    ensures { λ r. ⌜ r ≡ typeNumbers (tabView (now (bytes .entry)) (now (table .entry)) btf) id ⌝ }
+{
+    let kind = kind_of(bytes, table, btf, id);
+    let name = name_of(bytes, table, btf, id);
+    let long = name_length(bytes, btf, name);
+    let size = size_of(bytes, table, btf, id);
+    let referred = ref_of(bytes, table, btf, id);
+    let count = count_of(bytes, table, btf, id);
+    said_numbers(
+        kind,
+        name as u64,
+        long,
+        size as u64,
+        referred as u64,
+        count as u64,
+    )
+}
+
+// The k-th entry of what stands at an id.
+fn entry_numbers(bytes: &[u8], table: &[u32], btf: Btf, id: u32, k: u32) -> Numbers
+    ensures { λ r. ⌜ r ≡ entryNumbers (tabView (now (bytes .entry)) (now (table .entry)) btf) id k ⌝ }
+{
+    let entry = entry_of(bytes, table, btf, id, k);
+    let name = entry.name;
+    let long = name_length(bytes, btf, name);
+    said_numbers(
+        entry.typ,
+        name as u64,
+        long,
+        entry.low as u64,
+        entry.high as u64,
+        0,
+    )
+}
+
+// What stands at an id of a BTF that was read. Answers the kind, 0 for void and past the last id, and says beside it: the
+// name's offset in the strings and its length, the size, the type referred to, how many entries.
+#[no_mangle]
+pub extern "C" fn leamugi_type(
+    btf: &[u8],
+    table: &[u32],
+    read: &[u64],
+    id: u32,
+    said: &mut [u64],
+) -> u32
+    ensures number { λ r. ⌜ r ≡ typeNumbers (tabView (now (btf .entry)) (now (table .entry)) (btfOf (now (read .entry)))) id .number ⌝ }
+    ensures said { λ _. ⌜ now (said .exit) ≡ sets (now (said .entry)) 0 (five (typeNumbers (tabView (now (btf .entry)) (now (table .entry)) (btfOf (now (read .entry)))) id)) ⌝ }
+{
+    let n = type_numbers(btf, table, btf_from(read), id);
+    put_five(said, n);
+    n.number
+}
+
+// The k-th entry of a type. Answers its type id and says beside it: its name's offset in the strings and length, and its two
+// words.
+#[no_mangle]
+pub extern "C" fn leamugi_entry(
+    btf: &[u8],
+    table: &[u32],
+    read: &[u64],
+    id: u32,
+    k: u32,
+    said: &mut [u64],
+) -> u32
+    ensures number { λ r. ⌜ r ≡ entryNumbers (tabView (now (btf .entry)) (now (table .entry)) (btfOf (now (read .entry)))) id k .number ⌝ }
+    ensures said { λ _. ⌜ now (said .exit) ≡ sets (now (said .entry)) 0 (five (entryNumbers (tabView (now (btf .entry)) (now (table .entry)) (btfOf (now (read .entry)))) id k)) ⌝ }
+{
+    let n = entry_numbers(btf, table, btf_from(read), id, k);
     put_five(said, n);
     n.number
 }

@@ -164,7 +164,7 @@ pub(crate) fn relocate_reported(local: &Read, target: &Read, insns: &mut [u8], s
     Said { number, numbers }
 }
 
-/// What stands at an id: `number` is the kind; the numbers are name start and length in the bytes, size, referred type, entries.
+/// What stands at an id: `number` is the kind; the numbers are the name's offset in the strings and length, size, referred type, entries.
 pub(crate) fn type_at(btf: &Read, id: u32) -> Said {
     let mut numbers = [0; SAID];
     // SAFETY: as in `read`; `numbers` is exclusively borrowed, the others shared.
@@ -184,7 +184,7 @@ pub(crate) fn type_at(btf: &Read, id: u32) -> Said {
     Said { number, numbers }
 }
 
-/// The k-th entry of a type: `number` is its type; the numbers are name start and length in the bytes, and its two words.
+/// The k-th entry of a type: `number` is its type; the numbers are its name's offset in the strings and length, and its two words.
 pub(crate) fn entry_at(btf: &Read, id: u32, k: u32) -> Said {
     let mut numbers = [0; SAID];
     // SAFETY: as in `read`; `numbers` is exclusively borrowed, the others shared.

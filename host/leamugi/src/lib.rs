@@ -110,8 +110,8 @@ impl Btf {
     /// What stands at an id; void at 0 and past the last.
     pub fn type_at(&self, id: u32) -> Type<'_> {
         let said = ffi::type_at(&self.lent(), id);
-        let [start, length, size, referred, entries] = said.numbers;
-        Type { kind: said.number, name: &self.bytes[start as usize..(start + length) as usize], size, referred: referred as u32, entries }
+        let [name, length, size, referred, entries] = said.numbers;
+        Type { kind: said.number, name: self.named(name, length), size, referred: referred as u32, entries }
     }
 
     /// The name of the type at an id, as text.
@@ -122,14 +122,23 @@ impl Btf {
     /// The k-th member, variant, parameter or variable of the type at an id; zeros where there is none.
     pub fn entry_at(&self, id: u32, k: u32) -> Entry<'_> {
         let said = ffi::entry_at(&self.lent(), id, k);
-        let [start, length, low, high, _] = said.numbers;
-        Entry { name: &self.bytes[start as usize..(start + length) as usize], typ: said.number, low: low as u32, high: high as u32 }
+        let [name, length, low, high, _] = said.numbers;
+        Entry { name: self.named(name, length), typ: said.number, low: low as u32, high: high as u32 }
+    }
+
+    /// The string section.
+    fn string_bytes(&self) -> &[u8] {
+        &self.bytes[self.numbers[2] as usize..][..self.numbers[3] as usize]
+    }
+
+    /// The name of this length at an offset of the strings.
+    fn named(&self, offset: u64, length: u64) -> &[u8] {
+        &self.string_bytes()[offset as usize..][..length as usize]
     }
 
     /// The text at an offset of the strings, up to its zero.
     pub fn text(&self, offset: u32) -> String {
-        let strings = &self.bytes[self.numbers[2] as usize..][..self.numbers[3] as usize];
-        let text = strings.get(offset as usize..).unwrap_or_default();
+        let text = self.string_bytes().get(offset as usize..).unwrap_or_default();
         let end = text.iter().position(|byte| *byte == 0).unwrap_or(text.len());
         String::from_utf8_lossy(&text[..end]).into_owned()
     }
