@@ -1,0 +1,73 @@
+-- The examples that the definitions' comments tell in C, computed.
+-- Assumes nothing.
+use mathlib.Core.Path.{_≡_, refl}
+use mathlib.Core.Bool.{true}
+use mathlib.Core.List.{[], _∷_}
+use Rattle.view.specs.Text.{textAt, cut}
+use Rattle.view.specs.View.{View}
+use Rattle.rules.specs.declared.Resolved.the-variants.{At}
+use Rattle.rules.specs.declared.Why.the-variants.{KindWithoutSize}
+use Rattle.rules.specs.declared.Sized.the-variants.{Bytes, Unsized}
+use Rattle.rules.specs.declared.Compat.the-variants.{Compatible, Different}
+use Rattle.rules.specs.declared.Search.the-variants.{Found}
+use Rattle.rules.specs.Kinds.{PTR}
+use Rattle.rules.specs.Refusal.{ok}
+use Rattle.rules.specs.Types.{resolve, chain, sizeOf, elements, flavourless, sameText, typesCompatible, typesWithin, meet, fieldsCompatible, fieldsWithin, meetFields}
+use Rattle.rules.specs.Access.{member, element, lastOf, localFirstBits, localOpen, localMember, localElement, localStep, localSteps, localWalk}
+use Rattle.rules.specs.Matching.{isCandidate, fieldMatch, targetSteps, targetStep, targetMember, search, level, atElement}
+use Rattle.worked.specs.Make.{entry, int, struct, array, to, viewOf}
+
+-- struct a { int x; struct b { int y; struct { int z[4]; }; } s; };
+--   1 int; 2 struct a; 3 struct b; 4 the unnamed struct; 5 int[4]; 6 int[2][4]; 7 const struct a; 8 struct a *
+abbrev pub A : View
+A = viewOf (
+    int 4 0x1000020 ∷ struct 1 24 (entry 3 1 0 ∷ entry 5 3 32 ∷ []) ∷ struct 7 20 (entry 9 1 0 ∷ entry 0 4 32 ∷ []) ∷ struct 0 16 (entry 11 5 0 ∷ [])
+    ∷ array 1 4 ∷ array 5 2 ∷ to 10 2 ∷ to PTR 2 ∷ []
+    ) (0 ∷ 97 ∷ 0 ∷ 120 ∷ 0 ∷ 115 ∷ 0 ∷ 98 ∷ 0 ∷ 121 ∷ 0 ∷ 122 ∷ 0 ∷ [])
+
+-- const struct a is struct a.
+pub chains : resolve (A .typ) 7 ≡ At 2
+unfolding resolve chain
+chains = refl
+
+-- It has 24 bytes; int[2][4] has 16, as the crate counts; void has no size.
+pub sizes : (sizeOf (A .typ) 7 ≡ Bytes 24) × (sizeOf (A .typ) 6 ≡ Bytes 16) × (sizeOf (A .typ) 0 ≡ Unsized KindWithoutSize 0)
+unfolding sizeOf elements
+sizes = (refl, refl, refl)
+
+-- a___v2 without its flavour is a; a__v has none.
+pub flavours : (flavourless (97 ∷ 95 ∷ 95 ∷ 95 ∷ 118 ∷ 50 ∷ []) ≡ 97 ∷ []) × (flavourless (97 ∷ 95 ∷ 95 ∷ 118 ∷ []) ≡ 97 ∷ 95 ∷ 95 ∷ 118 ∷ [])
+unfolding flavourless
+flavours = (refl, refl)
+
+-- "0:1:1:0:2" on a: [0], .s, .z, [2], at bit 32 + 32 + 0 + 64
+pub walk : localWalk A 2 (0 ∷ 1 ∷ 1 ∷ 0 ∷ 2 ∷ [])
+    ≡ ok (record { typ = 1; path = element 2 0 ∷ member 2 1 ∷ member 4 0 ∷ element 1 2 ∷ []; bits = 128 })
+unfolding localWalk localSteps localStep localMember localElement localOpen localFirstBits lastOf resolve chain sizeOf elements
+walk = refl
+
+-- struct a { int x; int y; };
+--   1 int; 2 struct a
+abbrev pub B : View
+B = viewOf (int 4 0x1000020 ∷ struct 1 8 (entry 3 1 0 ∷ entry 5 1 32 ∷ []) ∷ []) (0 ∷ 97 ∷ 0 ∷ 120 ∷ 0 ∷ 121 ∷ 0 ∷ [])
+
+-- struct a___v2 { char c; struct { int x; int y; }; };
+--   1 int; 2 char; 3 the unnamed struct; 4 struct a___v2
+abbrev pub C : View
+C = viewOf (int 4 0x1000020 ∷ int 1 8 ∷ struct 0 8 (entry 1 1 0 ∷ entry 3 1 32 ∷ []) ∷ struct 5 12 (entry 12 2 0 ∷ entry 0 3 32 ∷ []) ∷ [])
+    (0 ∷ 120 ∷ 0 ∷ 121 ∷ 0 ∷ 97 ∷ 95 ∷ 95 ∷ 95 ∷ 118 ∷ 50 ∷ 0 ∷ 99 ∷ 0 ∷ [])
+
+-- a___v2 is a candidate for a.
+pub candidate : isCandidate (B .typ 2) (B .text 1) (C .typ 4) (C .text 5) ≡ true
+unfolding isCandidate sameText flavourless textAt cut
+candidate = refl
+
+-- y of a, in a___v2: at bit 32 of the unnamed struct at bit 32; three parts
+pub match : fieldMatch B C (element 2 0 ∷ member 2 1 ∷ []) 4 ≡ Found (record { typ = 1; last = member 3 1; bits = 64; parts = 3 })
+unfolding fieldMatch targetSteps targetStep targetMember search level atElement resolve chain sizeOf elements sameText fieldsCompatible fieldsWithin meetFields textAt cut
+match = refl
+
+-- A struct is compatible with any struct, and not with a pointer.
+pub compatible : (typesCompatible (A .typ) (C .typ) 7 4 ≡ Compatible) × (typesCompatible (A .typ) (A .typ) 2 8 ≡ Different)
+unfolding typesCompatible typesWithin meet resolve chain
+compatible = (refl, refl)

@@ -1,0 +1,4 @@
+pub mod Make
+pub mod Starred
+pub mod Report
+pub mod Examples

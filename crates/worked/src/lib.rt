@@ -1,0 +1,1 @@
+// Document 01's examples, computed from its definitions: see specs/.
