@@ -8,7 +8,7 @@ use std::{
     process::ExitCode,
 };
 
-use oracle::{Case, compare, differences, fixed, hand, list, made, reading, run, section8, stats, timing};
+use oracle::{Case, compare, differences, fixed, hand, list, made, reading, run, section4, section8, stats, timing};
 
 const USAGE: &str = "\
 oracle run FILE...                       blocks of case files, of lists, of folders of case files
@@ -215,7 +215,12 @@ fn compare_texts(ours: &str, others: &str) -> Done {
 fn read_files(files: &[&str]) -> Done {
     for file in files {
         let bytes = fs::read(file)?;
-        println!("{file}: section 4 {:?}, the crate {}", oracle::section4::read(&bytes).map(|a| a.types), oracle::crate_reads(&bytes));
+        let section4 = match section4::read(&bytes) {
+            Ok(accepted) => format!("accepted, entries={}", accepted.types + 1),
+            Err(section4::Fault::Bad(id)) => format!("outcome=1 id={id}"),
+            Err(section4::Fault::Limit) => "outcome=2".to_string(),
+        };
+        println!("{file}: section 4: {section4}; the crate: {}", oracle::crate_reads(&bytes));
     }
     Ok(true)
 }
