@@ -234,7 +234,8 @@ fn bare(files: &[&str]) -> Done {
             continue;
         };
         let said = prepared.relocate_caught(&target).map_or("panics", |accepted| if accepted { "accepts" } else { "refuses" });
-        println!("{file}: {said}");
+        let insns: String = prepared.insns().iter().map(|b| format!("{b:02x}")).collect();
+        println!("{file}: {said} insns={insns}");
     }
     Ok(true)
 }
