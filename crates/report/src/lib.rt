@@ -14,7 +14,8 @@ ghost use Rattle.report.specs.Pieces.{far, Wrote};
 // No buffer reaches this place, and a count stays there.
 const FAR: u64 = 9223372036854775808;
 
-fn near(at: u64) -> u64
+// A place where a count may stay.
+pub fn near(at: u64) -> u64
     ensures { λ r. ⌜ r ≡ min at far ⌝ }
 {
     if at < FAR { at } else { FAR }

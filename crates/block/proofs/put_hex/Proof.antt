@@ -1,0 +1,49 @@
+-- `block::put_hex` meets its contract.
+-- Assumes nothing.
+use native.Mathlib.Omega.{arith}
+use Prim.Native.Nat.{_≤_, _-_}
+use lib.ListN.{length, take}
+use borrow.Author.Needs.{needs}
+use Rattle.report.specs.Pieces.{Wrote}
+use Rattle.report.specs.Laws.{stays}
+use Rattle.block.specs.Block.{hex}
+use Rattle.block.specs.Laws.{more-hex, whole-hex}
+use Rattle.block.proofs.put_hex.Statement.{statement}
+use Rattle.block.proofs.put_hex.Tie as tie
+
+abbrev Inv-loop : tie.InvT-loop
+Inv-loop out₀ at bytes next₀ i₀ out next i = Wrote out₀ at (hex (take i bytes)) out next × (i ≤ length bytes)
+
+abbrev μ-loop : tie.MeasureT-loop
+μ-loop out₀ at bytes next₀ i₀ out next i = length bytes - i
+
+loop-holds : tie.Need-loop-holds Inv-loop μ-loop
+unfolding hex
+loop-holds c = search needs
+
+loop-again : tie.Need-loop-again Inv-loop μ-loop
+loop-again c =
+    let l = c .before .before .before .before .before .before in
+    (more-hex _ _ (omega arith) (c .before .before .before .before .before .loop-test .taken) (l .loop .inv .0) (c .before .before .put-hex-byte .ensures), omega arith)
+
+same-length : tie.Need-same-length Inv-loop μ-loop
+same-length c = stays (c .before .loop .inv .0)
+
+returns : tie.Need-returns Inv-loop μ-loop
+returns c = whole-hex _ _ (c .loop-test .left) (c .before .loop .inv .0)
+
+pub put-hex-spec : {M : Type 1} → statement M
+put-hex-spec =
+    tie.close
+    (tie.spec
+    Inv-loop
+    μ-loop
+    (λ c κs. search needs)
+    loop-holds
+    (λ c. search needs)
+    (λ c κs. search needs)
+    (λ c. search needs)
+    (λ c. search needs)
+    loop-again
+    same-length
+    returns)
