@@ -6,8 +6,10 @@ use std::io::Write as _;
 
 const HELP: &str = "\
 leamugi case FILE...
+leamugi case --list FILE
 
 Runs each case file (docs/CASES.md) and prints one block for each: the report, the outcome, the instructions left.
+With --list, runs each case of a list (oracle/README.md); case= is then the case's number.
 Exit status 0 whatever the answers are; 1 where a file is no case file.";
 
 /// The four byte strings of a case and the section offset.
@@ -27,44 +29,92 @@ pub fn run(words: &[String]) -> End {
     if words.is_empty() {
         return End::BadUse("case takes one or more case files".into());
     }
+    let done = match words {
+        [word, path] if word == "--list" => list(path),
+        _ => each(words),
+    };
+    match done {
+        Ok(end) => end,
+        Err(why) => End::BadUse(why),
+    }
+}
+
+/// Runs case files.
+fn each(paths: &[String]) -> Result<End, String> {
     let mut out = std::io::BufWriter::new(std::io::stdout().lock());
     let mut end = End::Done;
-    for path in words {
-        let block = match files::bytes(path) {
-            Err(why) => return End::BadUse(why),
-            Ok(bytes) => match parse(&bytes) {
-                Some(case) => block(&case),
-                None => {
-                    end = End::Refused;
-                    "bad case file\nend\n".into()
-                }
-            },
+    for path in paths {
+        let bytes = files::bytes(path)?;
+        let block = match parse(&bytes) {
+            Some(case) => block(&case),
+            None => {
+                end = End::Refused;
+                "bad case file\nend\n".into()
+            }
         };
-        if write!(out, "case={path}\n{block}").is_err() {
-            return End::BadUse("cannot write to standard output".into());
-        }
+        write!(out, "case={path}\n{block}").map_err(unwritten)?;
     }
-    match out.flush() {
-        Ok(()) => end,
-        Err(_) => End::BadUse("cannot write to standard output".into()),
+    out.flush().map_err(unwritten)?;
+    Ok(end)
+}
+
+/// Runs the cases of a list.
+fn list(path: &str) -> Result<End, String> {
+    let bytes = files::bytes(path)?;
+    if bytes.get(..8) != Some(b"LEALIST1") {
+        return Err(format!("{path} is no list of cases"));
     }
+    let mut out = std::io::BufWriter::new(std::io::stdout().lock());
+    let mut rest = &bytes[32..];
+    let mut number = 0;
+    while !rest.is_empty() {
+        let (case, after) = entry(rest).ok_or(format!("{path} ends inside case {number}"))?;
+        write!(out, "case={number}\n{}", block(&case)).map_err(unwritten)?;
+        rest = after;
+        number += 1;
+    }
+    out.flush().map_err(unwritten)?;
+    Ok(End::Done)
+}
+
+fn unwritten(error: std::io::Error) -> String {
+    format!("cannot write to standard output: {error}")
+}
+
+/// The number in four bytes.
+fn word(bytes: &[u8], at: usize) -> Option<usize> {
+    Some(u32::from_le_bytes(bytes.get(at..at + 4)?.try_into().ok()?) as usize)
+}
+
+/// The first entry of a list's rest, and what follows it.
+fn entry(bytes: &[u8]) -> Option<(Case<'_>, &[u8])> {
+    let section = u64::from_le_bytes(bytes.get(16..24)?.try_into().ok()?);
+    let lengths = [word(bytes, 0)?, word(bytes, 4)?, word(bytes, 8)?, word(bytes, 12)?];
+    let (case, after) = parts(&bytes[32..], lengths, section)?;
+    Some((case, after.get(word(bytes, 24)?..)?))
+}
+
+/// The four byte strings of these lengths, and what follows them.
+fn parts(bytes: &[u8], lengths: [usize; 4], section: u64) -> Option<(Case<'_>, &[u8])> {
+    let mut rest = bytes;
+    let mut part = |length: usize| {
+        let part = rest.get(..length)?;
+        rest = &rest[length..];
+        Some(part)
+    };
+    let case = Case { local: part(lengths[0])?, target: part(lengths[1])?, insns: part(lengths[2])?, records: part(lengths[3])?, section };
+    Some((case, rest))
 }
 
 /// The parts of a case file, if it is one.
 fn parse(bytes: &[u8]) -> Option<Case<'_>> {
-    let number = |at: usize| Some(u32::from_le_bytes(bytes.get(at..at + 4)?.try_into().ok()?) as usize);
     if bytes.get(..8)? != b"LEACASE1" {
         return None;
     }
     let section = u64::from_le_bytes(bytes.get(24..32)?.try_into().ok()?);
-    let mut at = 32;
-    let mut part = |length: usize| {
-        let part = bytes.get(at..at + length)?;
-        at += length;
-        Some(part)
-    };
-    let case = Case { local: part(number(8)?)?, target: part(number(12)?)?, insns: part(number(16)?)?, records: part(number(20)?)?, section };
-    (at == bytes.len()).then_some(case)
+    let lengths = [word(bytes, 8)?, word(bytes, 12)?, word(bytes, 16)?, word(bytes, 20)?];
+    let (case, after) = parts(&bytes[32..], lengths, section)?;
+    after.is_empty().then_some(case)
 }
 
 /// What a case gives, from the report to `end`.
