@@ -1,8 +1,8 @@
 use mathlib.Core.Path.{_≡_, refl, sym, _∙_}
 use borrow.Author.Tests.{eq-eqb, ne-eqb, lt-ltb, le-ltb, le-leb, lt-leb}
 use borrow.Author.Needs.{needs}
-use Rattle.relocate.proofs.write_for.Statement.{statement}
-use Rattle.relocate.proofs.write_for.Tie as tie
+use Rattle.compute.proofs.write_for.Statement.{statement}
+use Rattle.compute.proofs.write_for.Tie as tie
 
 returns : tie.Need-returns
 returns c = sym (rw (c .enum-told .given .1))

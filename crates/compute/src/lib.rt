@@ -1,4 +1,4 @@
-// One record, the list, the whole call.
+// What a record writes: its local access, its matches in the target, its value; no instruction is looked at.
 use btf::Btf;
 use rules::Matches;
 use rules::Record;
@@ -20,7 +20,7 @@ ghost use Rattle.rules.specs.Fields.{intSigned};
 ghost use Rattle.rules.specs.Record.{resizable, resizing, writing, absent, conclude};
 ghost use Rattle.rules.specs.Value.{plain};
 ghost use Rattle.rules.specs.Call.{recordAt};
-ghost use Rattle.relocate.specs.Replies.{worthOf};
+ghost use Rattle.compute.specs.Replies.{worthOf};
 
 const BTF_KIND_INT: u32 = 1;
 

@@ -1,8 +1,8 @@
 use mathlib.Core.Path.{_≡_, refl, sym, _∙_}
 use borrow.Author.Tests.{eq-eqb, ne-eqb, lt-ltb, le-ltb, le-leb, lt-leb}
 use borrow.Author.Needs.{needs}
-use Rattle.relocate.proofs.record_at.Statement.{statement}
-use Rattle.relocate.proofs.record_at.Tie as tie
+use Rattle.compute.proofs.record_at.Statement.{statement}
+use Rattle.compute.proofs.record_at.Tie as tie
 
 returns : tie.Need-returns
 returns c = sym (rw (← (c .before .before .before .u32-at .ensures), ← (c .before .before .u32-at2 .ensures), ← (c .before .u32-at3 .ensures), ← (c .u32-at4 .ensures)))
