@@ -1,0 +1,1 @@
+// Worked examples of the definitions, by computation: specs/ alone.
