@@ -1,7 +1,7 @@
 -- What two types without modifiers come to: one law for each way through the tests.
 -- Assumes nothing.
-use Prim.Native.Nat.{ℕ, _/_, _%_, _^_}
-use mathlib.Core.Path.{_≡_, refl, sym, _∙_}
+use Prim.Native.Nat.{ℕ}
+use mathlib.Core.Path.{_≡_, sym, _∙_}
 use mathlib.Core.Bool.{Bool, true, false, not}
 use lib.Dec.{eqb}
 use borrow.Author.Tests.{eq-eqb, ne-eqb}
@@ -10,7 +10,6 @@ use Rattle.rules.specs.declared.Compat.{Compat}
 use Rattle.rules.specs.declared.Compat.the-variants.{Compatible, Different, Broken}
 use Rattle.rules.specs.Kinds.{INT, PTR, ARRAY, FUNC-PROTO, alike}
 use Rattle.rules.specs.Types.{always, intsAgree, andThen, params, meet}
-use Rattle.types.proofs.Laws.{no, yes}
 
 -- Two types of kinds k and m; b is what the test said whether they are alike, d whether they are always compatible.
 module _ (down param : ℕ → ℕ → Compat) (l t : Ty) {k m : ℕ} {b : Bool} (e : k ≡ l .kind) (f : m ≡ t .kind) (g : b ≡ alike k m) where

@@ -1,7 +1,6 @@
 -- Chains and sizes, worked (document 01, sections 2 and 5).
-use Prim.Native.Nat.{ℕ, zero, suc}
 use mathlib.Core.Path.{_≡_, refl}
-use mathlib.Core.List.{List, [], _∷_}
+use mathlib.Core.List.{[], _∷_}
 use Rattle.rules.specs.declared.Resolved.the-variants.{At, Endless}
 use Rattle.rules.specs.declared.Why.the-variants.{ChainTooLong, KindWithoutSize, ProductTooBig}
 use Rattle.rules.specs.declared.Sized.the-variants.{Bytes, Unsized}

@@ -1,5 +1,5 @@
 -- Field compatibility, worked (document 01, section 5).
-use Prim.Native.Nat.{ℕ, zero, suc}
+use Prim.Native.Nat.{ℕ}
 use mathlib.Core.Path.{_≡_, refl}
 use mathlib.Core.List.{List, [], _∷_}
 use Rattle.kinds.specs.Types.{Ty}

@@ -1,8 +1,7 @@
 -- Names and flavours, worked (document 01, section 5). 95 is the underscore, 97 to 99 are `a` to `c`.
-use Prim.Native.Nat.{ℕ, zero, suc}
 use mathlib.Core.Path.{_≡_, refl}
 use mathlib.Core.Bool.{true, false}
-use mathlib.Core.List.{List, [], _∷_}
+use mathlib.Core.List.{[], _∷_}
 use Rattle.rules.specs.Types.{sameText, flavourless, sameFlavourless}
 
 -- `ab___c` is `ab`, `ab__c` is itself, `___a` is nothing, `a____b` is `a`.

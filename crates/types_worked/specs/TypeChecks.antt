@@ -1,7 +1,7 @@
 -- Type compatibility, worked (document 01, sections 2 and 5).
-use Prim.Native.Nat.{ℕ, zero, suc}
+use Prim.Native.Nat.{ℕ}
 use mathlib.Core.Path.{_≡_, refl}
-use mathlib.Core.List.{List, [], _∷_}
+use mathlib.Core.List.{[], _∷_}
 use Rattle.kinds.specs.Types.{Ty}
 use Rattle.rules.specs.declared.Compat.{Compat}
 use Rattle.rules.specs.declared.Compat.the-variants.{Compatible, Different, Broken, Beyond}
