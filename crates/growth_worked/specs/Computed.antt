@@ -40,7 +40,7 @@ computed = (
     noValue = record { isBtf = refl; types = refl; strings = refl; accepts = refl; matches = refl; was = refl; harm = refl; isDue = refl; is = refl };
     ownId = record { isBtf = refl; types = refl; strings = refl; accepts = refl; matches = refl; was = refl; harm = refl; isDue = refl; is = refl };
   },
-  record { rule = refl; harm = refl; valuesOnlyKeeps = refl; isDue = refl; earlyConflicts = refl },
+  record { rule = refl; harm = refl; valuesOnlyKeeps = refl; ruleLater = refl; isDue = refl; earlyConflicts = refl },
   record { before = refl; matched = refl; same = refl; harmed = refl; short = refl },
 )
 

@@ -50,5 +50,6 @@ pub record Refuted : Type 0 where
   pub harm : harmful (btfIn mine) (btfIn old) (btfIn (grownBy turned)) existsB 7 ≡ true
   pub valuesOnlyKeeps : concludeBy valuesOnly false (btfIn mine) (btfIn (grownBy turned)) existsB ≡ ok (Known (plain 1))
   -- The first conflict stops: 14 is due, and the record is refused with 10
+  pub ruleLater : concludeBy agrees false (btfIn mine) (btfIn (grownBy later)) offsetOfB ≡ refused Unresolved
   pub isDue : due (btfIn mine) (btfIn old) (btfIn (grownBy later)) offsetOfB ≡ some Unresolved
   pub earlyConflicts : concludeBy agrees true (btfIn mine) (btfIn (grownBy later)) offsetOfB ≡ refused (Conflict 7 1)
