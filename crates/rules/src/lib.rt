@@ -47,6 +47,12 @@ pub const MAX_RESOLVE_DEPTH: u32 = 32;
 // Nested steps of one type compatibility check (section 2).
 pub const MAX_STEPS: u32 = 32;
 
+// Unnamed levels of one member search (section 2).
+pub const MAX_LEVELS: u32 = 32;
+
+// Parts of a target's access, as in the crate: with as many no member and no element is tried.
+pub const MAX_SPEC_LEN: u32 = 64;
+
 // Why a record is refused (section 3). Cases that hold nothing return the record.
 pub enum Refusal {
     // the kind

@@ -75,7 +75,7 @@ pub enum Loaded {
 }
 
 // A value with nothing to compare.
-fn plain_value(number: u64) -> Value
+pub fn plain_value(number: u64) -> Value
     ensures { λ r. ⌜ r ≡ plain number ⌝ }
 {
     Value {
@@ -316,7 +316,7 @@ fn element_value(bytes: &[u8], table: &[u32], btf: Btf, kind: u32, id: u32, bits
 }
 
 // The member `index` of a type; zeros where there is none.
-fn member_of(bytes: &[u8], table: &[u32], btf: Btf, id: u32, index: u64) -> Entry
+pub fn member_of(bytes: &[u8], table: &[u32], btf: Btf, id: u32, index: u64) -> Entry
     ensures { λ r. ⌜ r ≡ entryAt (tabView (now (bytes .entry)) (now (table .entry)) btf .typ id) index ⌝ }
 {
     let count = count_of(bytes, table, btf, id);
