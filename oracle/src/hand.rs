@@ -513,8 +513,8 @@ impl Hand {
     fn loads(&mut self) {
         let two = |local: u32, target: u32, signs: (u32, u32)| {
             let (mut l, mut t) = pair();
-            l.int("i", local, local * 8 | signs.0 << 24);
-            t.int("i", target, target * 8 | signs.1 << 24);
+            l.int("i", local, (local * 8) | (signs.0 << 24));
+            t.int("i", target, (target * 8) | (signs.1 << 24));
             let id = l.st("s", 16, &[("x", 1, 0)]);
             t.st("s", 16, &[("x", 1, 64)]);
             (l, t, id)

@@ -165,7 +165,10 @@ impl Run {
 
 /// Refusal 18's shape.
 fn is_shaped(case: &Case) -> bool {
-    case.insns.len() % 8 == 0 && case.section % 8 == 0 && case.records.len() % 16 == 0 && case.insns.len() / 8 <= MAX_INSNS
+    case.insns.len().is_multiple_of(8)
+        && case.section.is_multiple_of(8)
+        && case.records.len().is_multiple_of(16)
+        && case.insns.len() / 8 <= MAX_INSNS
 }
 
 /// A copy that the crate can hold: a VAR's linkage above 3 becomes 0, which no answer looks at.

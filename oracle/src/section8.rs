@@ -60,8 +60,8 @@ fn bitfield(offset: u32, width: u32) -> Case {
 /// A plain field at byte 16 of the target.
 fn at_16(local: (u32, u32), target: (u32, u32), insns: &str) -> Case {
     let (mut l, mut t) = (Btf::default(), Btf::default());
-    l.int("i", local.0, local.0 * 8 | local.1 << 24);
-    t.int("i", target.0, target.0 * 8 | target.1 << 24);
+    l.int("i", local.0, (local.0 * 8) | (local.1 << 24));
+    t.int("i", target.0, (target.0 * 8) | (target.1 << 24));
     l.st("s", 8, &[("x", 1, 0)]);
     t.st("s", 32, &[("x", 1, 128)]);
     case(&mut l, &t, 2, "0:0", &[0], insns)

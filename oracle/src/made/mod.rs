@@ -31,7 +31,7 @@ fn damage(rng: &mut Rng, case: &mut Case) {
     };
     match rng.below(12) {
         0 => part.truncate(rng.below(part.len() + 1)),
-        1 => part.push(rng.next() as u8),
+        1 => part.push(rng.draw() as u8),
         2 => case.section += 1 + rng.below(15) as u64,
         3 if part.len() >= 24 => {
             let word = 4 * rng.below(6);
@@ -44,7 +44,7 @@ fn damage(rng: &mut Rng, case: &mut Case) {
                     break;
                 }
                 let at = rng.below(part.len());
-                part[at] = if rng.chance(50) { part[at] ^ 1 << rng.below(8) } else { rng.next() as u8 };
+                part[at] = if rng.chance(50) { part[at] ^ 1 << rng.below(8) } else { rng.draw() as u8 };
             }
         }
     }

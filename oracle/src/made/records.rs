@@ -120,10 +120,10 @@ pub fn instruction(rng: &mut Rng) -> [u8; 8] {
         3 => (0x18, regs),
         4 => (rng.pick(&[0x05, 0x85, 0x95, 0x15, 0x06, 0x16]), regs),
         5 => (rng.pick(&[0x20, 0x28, 0x30, 0x40, 0x00]), regs),
-        _ => (rng.next() as u8, rng.next() as u8),
+        _ => (rng.draw() as u8, rng.draw() as u8),
     };
     if rng.chance(6) {
-        let noise = rng.next().to_le_bytes();
+        let noise = rng.draw().to_le_bytes();
         return [code, regs, noise[0], noise[1], noise[2], noise[3], noise[4], noise[5]];
     }
     [code, regs, small, 0, small, 0, 0, 0]
@@ -173,5 +173,5 @@ fn laid_out(rng: &mut Rng, btf: &Btf) -> Vec<u8> {
 }
 
 fn small(rng: &mut Rng) -> u8 {
-    if rng.chance(80) { 0 } else { rng.next() as u8 }
+    if rng.chance(80) { 0 } else { rng.draw() as u8 }
 }

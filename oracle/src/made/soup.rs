@@ -33,7 +33,7 @@ fn any(rng: &mut Rng, here: u32, last: u32) -> Type {
     match kind {
         INT => {
             ty.third = rng.pick(&sizes[..7]);
-            ty.extra = vec![ty.third * 8 | rng.pick(&[0, 0, 0, 1, 2, 4]) << 24 | u32::from(rng.chance(4)) << 16];
+            ty.extra = vec![(ty.third * 8) | (rng.pick(&[0, 0, 0, 1, 2, 4]) << 24) | u32::from(rng.chance(4)) << 16];
         }
         ARRAY => ty.extra = vec![id(rng, here, last), id(rng, here, last), rng.below(4) as u32],
         STRUCT | UNION => {

@@ -54,7 +54,7 @@ pub fn int(rng: &mut Rng) -> Shape {
         ("u24", 3, 0),
     ]);
     let offset = if rng.chance(2) { 8 } else { 0 };
-    Shape::Int { name, size, extra: size * 8 & 0xff | offset << 16 | encoding << 24 }
+    Shape::Int { name, size, extra: (size * 8) & 0xff | offset << 16 | encoding << 24 }
 }
 
 /// An unsigned int of any size, the ones that no load has among them.
