@@ -6,6 +6,7 @@ pub mod compare;
 pub mod differences;
 pub mod fixed;
 pub mod hand;
+pub mod limits;
 pub mod list;
 pub mod made;
 pub mod reading;

@@ -1,14 +1,19 @@
 //! Many cases in one file, with or without their blocks. README.md tells the format.
 
-use crate::case::{Case, word};
+use crate::{
+    case::{Case, word},
+    section4,
+};
 
 pub const MAGIC: &[u8; 8] = b"LEALIST1";
 /// Bytes of the file's header, and of each entry's.
 pub const HEAD: usize = 32;
 pub const ENTRY: usize = 32;
-/// The most that an entry's four byte strings have together, and its block.
-pub const MAX_CASE: usize = 16_384;
-pub const MAX_BLOCK: usize = 8_192;
+/// The most that an entry's four byte strings have together, its block, one BTF, and the types of one BTF.
+pub const MAX_CASE: usize = 4_096;
+pub const MAX_BLOCK: usize = 512;
+pub const MAX_BTF: usize = 2_048;
+pub const MAX_TYPES: u32 = 127;
 
 /// Who gave the blocks.
 pub const NO_BLOCKS: u32 = 0;
@@ -31,7 +36,9 @@ pub struct Entry {
 
 impl Entry {
     pub fn fits(&self) -> bool {
-        self.case.size() <= MAX_CASE && self.block.len() <= MAX_BLOCK
+        let small = |btf: &Vec<u8>| btf.len() <= MAX_BTF && section4::read(btf).map_or(true, |a| a.types <= MAX_TYPES);
+        let btfs = small(&self.case.local) && small(&self.case.target);
+        btfs && self.case.size() <= MAX_CASE && self.block.len() <= MAX_BLOCK
     }
 
     pub fn pack(&self, out: &mut Vec<u8>) {
@@ -47,7 +54,7 @@ impl Entry {
 
 /// The header of a file of so many entries.
 pub fn head(count: u32, by: u32) -> Vec<u8> {
-    let words = [count, MAX_CASE as u32, MAX_BLOCK as u32, by, 0, 0];
+    let words = [count, MAX_CASE as u32, MAX_BLOCK as u32, by, MAX_BTF as u32, MAX_TYPES];
     MAGIC.iter().copied().chain(words.iter().flat_map(|w| w.to_le_bytes())).collect()
 }
 

@@ -8,7 +8,7 @@ use std::{
     process::ExitCode,
 };
 
-use oracle::{Case, compare, differences, fixed, hand, list, made, reading, run, section4, section8, stats, timing};
+use oracle::{Case, compare, differences, fixed, hand, limits, list, made, reading, run, section4, section8, stats, timing};
 
 const USAGE: &str = "\
 oracle run FILE...                       blocks of case files, of lists, of folders of case files
@@ -23,6 +23,7 @@ oracle split LIST DIR                    a list's cases as case files, their blo
 oracle compare BLOCKS OTHERS             two texts of blocks, case by case
 oracle read FILE...                      what the crate's own reader says of a BTF
 oracle bare FILE...                      the crate's public call alone, nothing guarded: it may end the process
+oracle limits DIR                        cases on both sides of section 2's limits, told outcomes beside them
 oracle differences DIR                   the smallest inputs of docs/DIFFERENCES.md and what comes of them";
 
 fn main() -> ExitCode {
@@ -42,6 +43,7 @@ fn main() -> ExitCode {
         ["compare", ours, others] => compare_texts(ours, others),
         ["read", files @ ..] => read_files(files),
         ["bare", files @ ..] => bare(files),
+        ["limits", dir] => write_limits(dir),
         ["differences", dir] => write_differences(dir),
         _ => {
             eprintln!("{USAGE}");
@@ -248,6 +250,19 @@ fn write_differences(dir: &str) -> Done {
         let said = differences::summary(&run(&row.case, true));
         good &= said == row.told;
         println!("{} {:32} {said}", if said == row.told { " " } else { "!" }, row.name);
+    }
+    Ok(good)
+}
+
+fn write_limits(dir: &str) -> Done {
+    fs::create_dir_all(dir)?;
+    let mut good = true;
+    for told in limits::cases() {
+        fs::write(format!("{dir}/{}.case", told.name), told.case.pack())?;
+        fs::write(format!("{dir}/{}.outcome", told.name), format!("{}\n", told.outcome))?;
+        let said = run(&told.case, true).outcome;
+        good &= said == told.outcome;
+        println!("{} {:24} {said}", if said == told.outcome { " " } else { "!" }, told.name);
     }
     Ok(good)
 }
