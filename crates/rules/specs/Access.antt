@@ -1,7 +1,7 @@
 -- An access string, and where it leads in the local types (document 01, section 5; the crate's AccessSpec::new).
 --   struct a { int x; struct b { int y; struct { int z[4]; }; } s; };
 --   "0:1:1:0:2" on a is ((struct a *)p)[0].s.z[2]: the accessors are [0], .s, .z, [2]; the unnamed struct's 1 adds its bits alone.
-use Prim.Native.Nat.{ℕ, zero, suc, _+_, _-_, _*_}
+use Prim.Native.Nat.{ℕ, suc, _+_, _-_, _*_}
 use mathlib.Core.Bool.{Bool, true, false, cond, _&&_, not}
 use mathlib.Core.List.{List, [], _∷_, _++_}
 use mathlib.Core.Option.{Option, none, some}
@@ -9,11 +9,11 @@ use lib.ListN.{length, getD}
 use lib.Dec.{leb, eqb, ltb}
 use Rattle.rules.specs.Kinds.{ARRAY, STRUCT, isComposite, isEnum, isField, isType}
 use Rattle.rules.specs.Limits.{maxParts, numberLimit}
-use Rattle.kinds.specs.declared.Entry.{Entry}
 use Rattle.kinds.specs.Types.{Ty}
 use Rattle.view.specs.View.{View}
 use Rattle.rules.specs.declared.Accessor.{Accessor}
-use Rattle.rules.specs.declared.Refusal.{Refusal}
+use Rattle.rules.specs.declared.Step.{Step}
+use Rattle.rules.specs.declared.Step.the-variants.{By, Within}
 use Rattle.rules.specs.declared.Refusal.the-variants.{BadAccess, IndexTooBig, WrongKind, TooManyParts}
 use Rattle.rules.specs.Fields.{memberBits, entryAt}
 use Rattle.rules.specs.Refusal.{Reply, ok, refused, bind, bitOffset}
@@ -113,44 +113,61 @@ pub data Access : Type 0 where
   variant : ℕ → ℕ → Access
   path : List Accessor → ℕ → Access
 
--- To a member: its bits count, and where it has a name it is an accessor.
-unfoldable pub localMember : Walk → ℕ → Ty → ℕ → Reply Walk
-localMember w i t k =
+-- To the member k of the type i (t): its bits count, and where it has a name it is an accessor.
+unfoldable pub localMember : ℕ → ℕ → ℕ → Ty → Reply Step
+localMember bits k i t =
     let m = entryAt t k in
-    let longer = cond (eqb (m .name) 0) (w .path) (w .path ++ member i k ∷ []) in
     cond (leb (length (t .entries)) k) (refused (IndexTooBig k (length (t .entries))))
-    (bind (bitOffset (w .bits + memberBits t m)) (λ b. ok (record { typ = m .typ; path = longer; bits = b })))
+    (bind (bitOffset (bits + memberBits t m)) (λ b. ok (cond (eqb (m .name) 0) (Within (m .typ) b) (By (member i k) (m .typ) b))))
 
--- To an element, its type j being resolved
-unfoldable pub localElement : View → Walk → Ty → ℕ → ℕ → Reply Walk
-localElement L w t k j =
-    let parent = L .typ (last (w .path) .typ) in
-    cond (not (localOpen t parent k) && leb (t .extra) k) (refused (IndexTooBig k (t .extra)))
-    (sized (sizeOf (L .typ) j) (λ s. bind (bitOffset (k * s * 8)) (λ e. bind (bitOffset (w .bits + e)) (λ b.
-    ok (record { typ = j; path = w .path ++ element j k ∷ []; bits = b })))))
+-- The bits of the element k, of type j, in an array that begins at some bits
+unfoldable pub elementBits : (ℕ → Ty) → ℕ → ℕ → ℕ → Reply ℕ
+elementBits typ bits k j = sized (sizeOf typ j) (λ s. bind (bitOffset (k * s * 8)) (λ e. bitOffset (bits + e)))
+
+-- To the element k of the array t, its type j being resolved; `parent` is the type of the accessor before it
+unfoldable pub localElement : (ℕ → Ty) → Ty → ℕ → ℕ → Ty → ℕ → Reply Step
+localElement typ parent bits k t j =
+    let there = bind (elementBits typ bits k j) (λ b. ok (By (element j k) j b)) in
+    cond (localOpen t parent k) there (cond (leb (t .extra) k) (refused (IndexTooBig k (t .extra))) there)
 
 -- One part, at the resolved type i
-unfoldable pub localStep : View → Walk → ℕ → ℕ → Reply Walk
-localStep L w k i =
-    let t = L .typ i in
-    cond (isComposite (t .kind)) (localMember w i t k)
-    (cond (eqb (t .kind) ARRAY) (resolved (resolve (L .typ) (t .ref)) (localElement L w t k)) (refused WrongKind))
+unfoldable pub localStep : (ℕ → Ty) → Ty → ℕ → ℕ → ℕ → Reply Step
+localStep typ parent bits k i =
+    let t = typ i in
+    cond (isComposite (t .kind)) (localMember bits k i t)
+    (cond (eqb (t .kind) ARRAY) (resolved (resolve typ (t .ref)) (localElement typ parent bits k t)) (refused WrongKind))
+
+-- A walk, a step further
+abbrev pub walked : Walk → Step → Walk
+walked w (By a j b) = record { typ = j; path = w .path ++ a ∷ []; bits = b }
+walked w (Within j b) = record { typ = j; path = w .path; bits = b }
 
 -- The parts after the first, each at the type come to, without its modifiers
-unfoldable pub localSteps : View → Walk → List ℕ → Reply Walk
-localSteps L w [] = ok w
-localSteps L w (k ∷ ks) = bind (resolved (resolve (L .typ) (w .typ)) (localStep L w k)) (λ v. localSteps L v ks)
+unfoldable pub localSteps : (ℕ → Ty) → Walk → List ℕ → Reply Walk
+localSteps typ w [] = ok w
+localSteps typ w (k ∷ ks) =
+    bind (resolved (resolve typ (w .typ)) (localStep typ (typ (last (w .path) .typ)) (w .bits) k)) (λ s. localSteps typ (walked w s) ks)
+
+-- The walk that begins with the index k of type i
+abbrev pub begun : ℕ → ℕ → ℕ → Walk
+begun i k b = record { typ = i; path = element i k ∷ []; bits = b }
+
+-- The bits of the first index, k, of type i
+unfoldable pub firstBits : (ℕ → Ty) → ℕ → ℕ → Reply ℕ
+firstBits typ k i = sized (sizeOf typ i) (λ s. bitOffset (localFirstBits s k))
 
 -- The first index, then the rest (there is always a first)
-unfoldable pub localWalk : View → ℕ → List ℕ → Reply Walk
-localWalk L i [] = refused BadAccess
-localWalk L i (k ∷ ks) =
-    sized (sizeOf (L .typ) i) (λ s. bind (bitOffset (localFirstBits s k)) (λ b.
-    localSteps L (record { typ = i; path = element i k ∷ []; bits = b }) ks))
+unfoldable pub localWalk : (ℕ → Ty) → ℕ → List ℕ → Reply Walk
+localWalk typ i [] = refused BadAccess
+localWalk typ i (k ∷ ks) = bind (firstBits typ k i) (λ b. localSteps typ (begun i k b) ks)
+
+-- What a walk has found
+abbrev pub found : Walk → Reply Access
+found w = ok (path (w .path) (w .bits))
 
 -- A field of the type i
-unfoldable pub fieldAccess : View → ℕ → List ℕ → Reply Access
-fieldAccess L i ks = bind (localWalk L i ks) (λ w. ok (path (w .path) (w .bits)))
+unfoldable pub fieldAccess : (ℕ → Ty) → ℕ → List ℕ → Reply Access
+fieldAccess typ i ks = bind (localWalk typ i ks) found
 
 -- A type as a whole takes exactly the part 0.
 unfoldable pub typeAccess : List ℕ → Reply Access
@@ -164,9 +181,9 @@ variantAt i n ks =
     (cond (ltb k n) (ok (variant i k)) (refused (IndexTooBig k n)))
 
 -- A variant of the enum i; anything else is the wrong kind, whatever the parts
-unfoldable pub enumAccess : View → ℕ → List ℕ → Reply Access
-enumAccess L i ks = cond (isEnum (L .typ i .kind)) (variantAt i (length (L .typ i .entries)) ks) (refused WrongKind)
+unfoldable pub enumAccess : (ℕ → Ty) → ℕ → List ℕ → Reply Access
+enumAccess typ i ks = cond (isEnum (typ i .kind)) (variantAt i (length (typ i .entries)) ks) (refused WrongKind)
 
 -- What a record of kind k accesses, at the type i that is no modifier
 unfoldable pub localAccess : View → ℕ → ℕ → List ℕ → Reply Access
-localAccess L k i ks = cond (isField k) (fieldAccess L i ks) (cond (isType k) (typeAccess ks) (enumAccess L i ks))
+localAccess L k i ks = cond (isField k) (fieldAccess (L .typ) i ks) (cond (isType k) (typeAccess ks) (enumAccess (L .typ) i ks))

@@ -29,7 +29,7 @@ use Rattle.rules.specs.declared.Refusal.the-variants.{MaximumNesting, Un
 use Rattle.rules.specs.Fields.{entryAt, memberBits}
 use Rattle.rules.specs.Refusal.{Reply, ok, refused, bind}
 use Rattle.rules.specs.Types.{chain, resolve, resolved, ownSize, times, elements, isEmpty, sameText, sameFlavourless, andThen, both, meet, pairs, typesWithin, meetFields, fieldsWithin}
-use Rattle.rules.specs.Access.{Walk, localStep, localSteps}
+use Rattle.rules.specs.Access.{Walk, last, localStep, walked, localSteps}
 use Rattle.rules.specs.Value.{aligned, endFrom, bitfieldLoad}
 use Rattle.rules.specs.Matching.{variantNamed, orElse, grown, decided, Sought, atMember, level, membersOf, search}
 use Rattle.rules.specs.Record.{turn, over}
@@ -73,6 +73,12 @@ search-turn fits T q levels i h = peel (λ j. search fits T q j i) _ (λ j. refl
 pub over-turn : (f : ℕ → Event) (s : Matches) (i n : ℕ) → 0 < n → over f s i n ≡ over f (turn s i (f i)) (suc i) (n - 1)
 unfolding over
 over-turn f s i n h = peel (λ j. over f s i j) _ (λ j. refl) n h
+
+-- The parts of an access from the k-th on
+pub steps-turn : (typ : ℕ → Ty) (w : Walk) (ks : List ℕ) (k : ℕ) → k < length ks → localSteps typ w (drop k ks)
+    ≡ bind (resolved (resolve typ (w .typ)) (localStep typ (typ (last (w .path) .typ)) (w .bits) (getD ks k 0))) (λ s. localSteps typ (walked w s) (drop (suc k) ks))
+unfolding localSteps
+steps-turn typ w ks k h = rw (drop-cons ks k 0 h)
 
 -- The parameters of two functions from index k on
 pub pairs-turn : (check : ℕ → ℕ → Compat) (l t : Ty) (k : ℕ) → k < length (l .entries) → k < length (t .entries)

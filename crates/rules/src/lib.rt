@@ -113,6 +113,12 @@ pub struct Accessor {
     pub named: bool,
 }
 
+// A step of the local walk, to a type at a bit offset: by an accessor, or within an unnamed member by none.
+pub enum Step {
+    By(Accessor, u32, u64),
+    Within(u32, u64),
+}
+
 // The type that a value's size is compared by, where it has one.
 pub enum Typing {
     Typed(u32),
