@@ -312,7 +312,7 @@ fn stepless(reach: Reach) -> Accessed
     }
 }
 
-fn refuse(refusal: Refusal) -> Accessed
+pub fn refuse(refusal: Refusal) -> Accessed
     ensures { λ r. ⌜ accessOf r ≡ refused refusal ⌝ }
 {
     stepless(Reach::Refused(refusal))

@@ -1,5 +1,9 @@
 -- The stages' answers as replies.
+use Prim.Native.Nat.{ℕ}
+use mathlib.Core.List.{List}
 use Rattle.rules.specs.declared.Worth.{Worth}
+use Rattle.rules.specs.declared.Refusal.the-variants.{Unresolved}
+use Rattle.rules.specs.Access.{Access}
 use Rattle.rules.specs.Refusal.{Reply, ok, refused}
 use Rattle.compute.specs.declared.Concluded.{Concluded}
 use Rattle.compute.specs.declared.Concluded.the-variants.{Worthy, Refused}
@@ -7,3 +11,8 @@ use Rattle.compute.specs.declared.Concluded.the-variants.{Worthy, Refuse
 abbrev pub worthOf : Concluded → Reply Worth
 worthOf (Worthy v) = ok v
 worthOf (Refused r) = refused r
+
+-- An endless chain, met after the parts
+abbrev pub endlessAfter : Reply (List ℕ) → Reply Access
+endlessAfter (ok ns) = refused Unresolved
+endlessAfter (refused r) = refused r

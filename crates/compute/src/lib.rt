@@ -1,26 +1,45 @@
 // What a record writes: its local access, its matches in the target, its value; no instruction is looked at.
+use access::text::Parsed;
+use access::text::Parsing;
+use access::text::parse_access;
+use access::walk::Accessed;
+use access::walk::Reach;
+use access::walk::local_access;
+use access::walk::refuse;
 use btf::Btf;
+use rules::Accessor;
 use rules::Matches;
 use rules::Record;
 use rules::Refusal;
 use rules::Resize;
+use rules::Resolved;
 use rules::Typing;
 use rules::Value;
 use rules::Worth;
 use rules::Write;
+use types::resolve_type;
+use value::Valued;
+use value::field_value;
+use value::plain_value;
 use view::extra_of;
 use view::kind_of;
+use view::room_of;
+use view::text_of;
 use words::u32_at;
 ghost use mathlib.Core.Path.{_≡_};
 ghost use Prim.Native.Nat.{_+_, _*_, _/_, _≤_};
-ghost use lib.ListN.{length};
+ghost use lib.ListN.{length, take};
 ghost use Rattle.view.specs.View.{tabView};
 ghost use Rattle.rules.specs.Kinds.{asksExistence};
 ghost use Rattle.rules.specs.Fields.{intSigned};
-ghost use Rattle.rules.specs.Record.{resizable, resizing, writing, absent, conclude};
-ghost use Rattle.rules.specs.Value.{plain};
+ghost use Rattle.rules.specs.Record.{resizable, resizing, writing, absent, conclude, accessed};
+ghost use Rattle.rules.specs.Refusal.{bind};
+ghost use Rattle.rules.specs.Access.{last};
+ghost use Rattle.rules.specs.Value.{plain, localValue};
+ghost use Rattle.access.specs.Replies.{partsOf, accessOf};
+ghost use Rattle.value.specs.Replies.{replyOf};
 ghost use Rattle.rules.specs.Call.{recordAt};
-ghost use Rattle.compute.specs.Replies.{worthOf};
+ghost use Rattle.compute.specs.Replies.{worthOf, endlessAfter};
 
 const BTF_KIND_INT: u32 = 1;
 
@@ -158,17 +177,6 @@ fn asks_existence(kind: u32) -> bool
     kind == ENUM_VARIANT_EXISTS
 }
 
-// A value with nothing to compare.
-fn plain_value(n: u64) -> Value
-    ensures { λ r. ⌜ r ≡ plain n ⌝ }
-{
-    Value {
-        number: n,
-        size: 0,
-        typ: Typing::Untyped,
-    }
-}
-
 // Where nothing matched: existence is 0, a type's id or size is refused, anything else has no value.
 fn absent_worth(kind: u32) -> Concluded
     ensures { λ r. ⌜ worthOf r ≡ absent kind ⌝ }
@@ -198,5 +206,74 @@ fn conclude_from(kind: u32, matches: Matches) -> Concluded
             }
             Concluded::Refused(Refusal::Conflict(id, n))
         }
+    }
+}
+
+// An endless chain, met after the parts: where these are refused, that comes first.
+fn unresolved_after(parts: Parsed) -> Accessed
+    ensures { λ r. ⌜ accessOf r ≡ endlessAfter (partsOf parts) ⌝ }
+{
+    let answer = parts.answer;
+    match answer {
+        Parsing::Invalid => refuse(Refusal::BadAccess),
+        Parsing::TooMany => refuse(Refusal::TooManyParts),
+        Parsing::Parts => refuse(Refusal::Unresolved),
+    }
+}
+
+// What a record accesses, from its type id on.
+pub fn record_access(bytes: &[u8], table: &[u32], btf: Btf, relo: Record) -> Accessed
+    ensures { λ r. ⌜ accessOf r ≡ accessed (tabView (now (bytes .entry)) (now (table .entry)) btf) relo ⌝ }
+{
+    if btf.last < relo.typ {
+        return refuse(Refusal::Unresolved);
+    }
+    if room_of(bytes, btf) <= relo.access as usize {
+        return refuse(Refusal::Unresolved);
+    }
+    let parts = parse_access(text_of(bytes, btf, relo.access));
+    let end = resolve_type(bytes, table, btf, relo.typ);
+    match end {
+        Resolved::At(id) => local_access(bytes, table, btf, relo.kind, id, parts),
+        Resolved::Endless => unresolved_after(parts),
+    }
+}
+
+// The last accessor of a path.
+fn last_step(access: Accessed, count: usize) -> Accessor
+    ensures { λ r. ⌜ r ≡ last (take count (access .steps)) ⌝ }
+{
+    if count == 0 {
+        return Accessor {
+            typ: 0,
+            index: 0,
+            named: false,
+        };
+    }
+    let steps = access.steps;
+    if count > 64 {
+        return steps[63];
+    }
+    let i = count - 1;
+    steps[i]
+}
+
+// The record's own, local, value.
+pub fn own_value(bytes: &[u8], table: &[u32], btf: Btf, kind: u32, access: Accessed) -> Valued
+    ensures { λ r. ⌜ replyOf r ≡ bind (accessOf access) (localValue (tabView (now (bytes .entry)) (now (table .entry)) btf .typ) kind) ⌝ }
+{
+    let reach = access.reach;
+    match reach {
+        Reach::Refused(why) => Valued::Refused(why),
+        Reach::Path(count, bits) => field_value(
+            bytes,
+            table,
+            btf,
+            kind,
+            last_step(access, count),
+            bits,
+        ),
+        Reach::Whole => Valued::Known(plain_value(0)),
+        Reach::Variant(id, k) => Valued::Known(plain_value(0)),
     }
 }

@@ -27,7 +27,9 @@ use Rattle.rules.specs.declared.Answer.the-variants.{Applied, Poisoned, 
 use Rattle.rules.specs.Kinds.{INT, PTR, typeIdLocal, typeIdTarget, typeSize, enumValue, asksExistence}
 use Rattle.rules.specs.Fields.{intSigned}
 use Rattle.rules.specs.Refusal.{Reply, ok, refused, bind, number, returned}
-use Rattle.rules.specs.Types.{resolve, resolved}
+use Rattle.rules.specs.declared.Resolved.{Resolved}
+use Rattle.rules.specs.declared.Resolved.the-variants.{At, Endless}
+use Rattle.rules.specs.Types.{resolve}
 use Rattle.rules.specs.Access.{Access, parse, localAccess}
 use Rattle.rules.specs.Value.{plain, localValue}
 use Rattle.rules.specs.Matching.{isCandidate, event}
@@ -122,13 +124,17 @@ compute L T r a =
     cond (eqb (r .kind) typeIdLocal) (ok (Put (r .typ) Same))
     (computed (L .typ) (T .typ) mine (conclude (r .kind) (matches L T r a mine)))
 
+-- What the parts access, at the type that a chain ends at
+abbrev pub accessAt : View → ℕ → Resolved → List ℕ → Reply Access
+accessAt L k Endless parts = refused Unresolved
+accessAt L k (At i) parts = localAccess L k i parts
+
 -- What a record accesses, from its type id on; the local BTF alone decides
 unfoldable pub accessed : View → Record → Reply Access
 accessed L r =
     cond (ltb (L .count) (r .typ)) (refused Unresolved)
     (cond (leb (L .room) (r .access)) (refused Unresolved)
-    (bind (parse (L .text (r .access))) (λ parts.
-    resolved (resolve (L .typ) (r .typ)) (λ i. localAccess L (r .kind) i parts))))
+    (bind (parse (L .text (r .access))) (accessAt L (r .kind) (resolve (L .typ) (r .typ)))))
 
 -- What a record writes, before any instruction is looked at
 unfoldable pub relocated : View → View → Record → Reply Write
