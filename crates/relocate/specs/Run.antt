@@ -1,0 +1,70 @@
+-- A list of records as a loop goes through it: from record number k on, with so many left.
+use Prim.Native.Nat.{ℕ, zero, suc, _+_, _-_, _/_, _≤_, _<_}
+use mathlib.Core.Path.{_≡_, refl, sym, ap, _∙_}
+use mathlib.Core.List.{List, [], _∷_}
+use native.Mathlib.Omega.{arith}
+use native.Mathlib.Nat.{not-suc-le-zero}
+use native.Mathlib.Numerals.{sub-one}
+use lib.ListN.{length}
+use Rattle.view.specs.View.{View}
+use Rattle.rules.specs.declared.Refusal.{Refusal}
+use Rattle.rules.specs.declared.Record.{Record}
+use Rattle.rules.specs.declared.Answer.{Answer}
+use Rattle.rules.specs.declared.Answer.the-variants.{Applied, Poisoned, Refused}
+use Rattle.rules.specs.declared.Ending.the-variants.{Done, Stopped}
+use Rattle.rules.specs.Record.{Outcome, recordOf}
+use Rattle.rules.specs.List.{Run, follow, listOf}
+use Rattle.rules.specs.Call.{recordAt, recordsFrom, ended, endOf, Effect, runOf}
+
+-- What an answer and the instructions it leaves make
+abbrev pub outcomeOf : Answer → List ℕ → Outcome
+outcomeOf a xs = record { answer = a; insns = xs }
+
+-- What the answers of a run say from record number k on, and the instructions left
+abbrev effect : ℕ → Run → Effect
+effect k run = record { said = endOf k (run .answers); insns = run .insns }
+
+-- n records from number k on
+unfoldable pub runFrom : View → View → ℕ → List ℕ → ℕ → ℕ → List ℕ → Effect
+runFrom L T section rs k n xs = effect k (listOf L T section xs (recordsFrom rs k n))
+
+module _ (L T : View) (section : ℕ) (rs : List ℕ) where
+  pub run-whole : (xs : List ℕ) → runFrom L T section rs 0 (length rs / 16) xs ≡ runOf L T section xs rs
+  unfolding runFrom runOf
+  run-whole xs = refl
+
+  pub run-end : (k : ℕ) (xs : List ℕ) → runFrom L T section rs k 0 xs ≡ record { said = ended Done k; insns = xs }
+  unfolding runFrom recordsFrom listOf endOf
+  run-end k xs = refl
+
+  -- one record of n + 1: refused, with a value, poisoned
+  module _ (k n : ℕ) (xs ys : List ℕ) where
+    refuses : (q : Refusal) → outcomeOf (Refused q) ys ≡ recordOf L T section xs (recordAt rs k)
+        → runFrom L T section rs k (suc n) xs ≡ record { said = ended (Stopped k q) k; insns = ys }
+    unfolding runFrom recordsFrom listOf endOf
+    refuses q e = rw (← e)
+
+    applies : (v : ℕ) → outcomeOf (Applied v) ys ≡ recordOf L T section xs (recordAt rs k)
+        → runFrom L T section rs k (suc n) xs ≡ runFrom L T section rs (k + 1) n ys
+    unfolding runFrom recordsFrom listOf endOf
+    applies v e = rw (← e)
+
+    poisons : outcomeOf Poisoned ys ≡ recordOf L T section xs (recordAt rs k) → runFrom L T section rs k (suc n) xs ≡ runFrom L T section rs (k + 1) n ys
+    unfolding runFrom recordsFrom listOf endOf
+    poisons e = rw (← e)
+
+  -- the same as a loop counts: m records in all, k of them passed
+  module _ (k m : ℕ) (xs ys : List ℕ) (h : k < m) where
+    one : m - k ≡ suc (m - (k + 1))
+    one = omega arith
+
+    pub run-refused : {a : Answer} (q : Refusal) → a ≡ Refused q → outcomeOf a ys ≡ recordOf L T section xs (recordAt rs k)
+        → runFrom L T section rs k (m - k) xs ≡ record { said = ended (Stopped k q) k; insns = ys }
+    run-refused q e f =
+        ap (λ (n : ℕ). runFrom L T section rs k n xs) one ∙ refuses k (m - (k + 1)) xs ys q (ap (λ (b : Answer). outcomeOf b ys) (sym e) ∙ f)
+
+    pub run-applied : (a : Answer) → ((q : Refusal) → a ≡ Refused q → ⊥) → outcomeOf a ys ≡ recordOf L T section xs (recordAt rs k)
+        → runFrom L T section rs k (m - k) xs ≡ runFrom L T section rs (k + 1) (m - (k + 1)) ys
+    run-applied (Applied v) other f = ap (λ (n : ℕ). runFrom L T section rs k n xs) one ∙ applies k (m - (k + 1)) xs ys v f
+    run-applied Poisoned other f = ap (λ (n : ℕ). runFrom L T section rs k n xs) one ∙ poisons k (m - (k + 1)) xs ys f
+    run-applied (Refused q) other f = absurd (other q refl)

@@ -1,0 +1,1 @@
+// The records of a list, one by one; the whole call.
