@@ -10,7 +10,7 @@ use Rattle.view.specs.Text.{cut, textAt}
 use Rattle.view.specs.View.{off, typ, tabTyp}
 use Rattle.rules.specs.Refusal.{number, returned}
 use Rattle.rules.specs.Types.{chain, resolve, elements, sizeOf, sameText, flavourless, pairs, params, meet, typesWithin, typesCompatible, meetFields, fieldsWithin, fieldsCompatible}
-use Rattle.rules.specs.Access.{digits, decimal, part, split, numbers, parse, lastOf, localFirstBits, localOpen, localMember, localElement, localStep, localSteps, localWalk, fieldAccess, typeAccess, variantAt, enumAccess, localAccess}
+use Rattle.rules.specs.Access.{digits, decimal, part, split, numbers, parse, lastOf, localFirstBits, localOpen, localMember, elementBits, localElement, localStep, localSteps, firstBits, localWalk, fieldAccess, typeAccess, variantAt, enumAccess, localAccess}
 use Rattle.rules.specs.Value.{bitfieldLoad, signedness, loadValue, plainValue, bitfieldValue, memberValue, elementValue, fieldValue, variantValue, typeValue, localValue}
 use Rattle.rules.specs.Matching.{isCandidate, variantNamed, enumEvent, level, search, targetMember, atElement, targetOpen, targetElement, targetStep, targetSteps, fieldMatch, event}
 use Rattle.rules.specs.Apply.{code, sourceRegister, withCode, withOff, withImm, poisoned, alsoNext, poison, patchAlu, sizeBits, withSize, resize, patchMemory, patchWide, patchClass, patchFront, patch}
@@ -24,7 +24,7 @@ use Rattle.growth_worked.specs.Variants.{overBy, concludeBy, Refuted}
 
 -- One theorem, so that the definitions to compute with are listed once
 computed : Worked × Refuted × WorkedCalls
-unfolding numAt section putAt isKind extraBytes entryBytes hasSize hasType encodes entryOf extraAt entryAt entriesAt entryCount typeAt typeBytes begins headOf stringsFine encodingFine good stepAt scan allFit fits unfit checked accepted cut textAt off typ tabTyp returned chain resolve elements sizeOf sameText flavourless pairs params meet typesWithin typesCompatible meetFields fieldsWithin fieldsCompatible digits decimal part split numbers parse lastOf localFirstBits localOpen localMember localElement localStep localSteps localWalk fieldAccess typeAccess variantAt enumAccess localAccess bitfieldLoad signedness loadValue plainValue bitfieldValue memberValue elementValue fieldValue variantValue typeValue localValue isCandidate variantNamed enumEvent level search targetMember atElement targetOpen targetElement targetStep targetSteps fieldMatch event code sourceRegister withCode withOff withImm poisoned alsoNext poison patchAlu sizeBits withSize resize patchMemory patchWide patchClass patchFront patch turn over eventAt matches absent conclude resizable resizing compute accessed relocated said apply recordOf listOf appliedOf btfIn gives firstMatch causes harmful firstOwn those harmfulIds due allMatched decode recordsFrom endOf runOf shaped relocateOf overBy concludeBy
+unfolding numAt section putAt isKind extraBytes entryBytes hasSize hasType encodes entryOf extraAt entryAt entriesAt entryCount typeAt typeBytes begins headOf stringsFine encodingFine good stepAt scan allFit fits unfit checked accepted cut textAt off typ tabTyp returned chain resolve elements sizeOf sameText flavourless pairs params meet typesWithin typesCompatible meetFields fieldsWithin fieldsCompatible digits decimal part split numbers parse lastOf localFirstBits localOpen localMember elementBits localElement localStep localSteps firstBits localWalk fieldAccess typeAccess variantAt enumAccess localAccess bitfieldLoad signedness loadValue plainValue bitfieldValue memberValue elementValue fieldValue variantValue typeValue localValue isCandidate variantNamed enumEvent level search targetMember atElement targetOpen targetElement targetStep targetSteps fieldMatch event code sourceRegister withCode withOff withImm poisoned alsoNext poison patchAlu sizeBits withSize resize patchMemory patchWide patchClass patchFront patch turn over eventAt matches absent conclude resizable resizing compute accessed relocated said apply recordOf listOf appliedOf btfIn gives firstMatch causes harmful firstOwn those harmfulIds due allMatched decode recordsFrom endOf runOf shaped relocateOf overBy concludeBy
 computed = (
   record {
     oldIsBtf = refl;

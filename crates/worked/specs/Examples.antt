@@ -13,7 +13,7 @@ use Rattle.rules.specs.declared.Search.the-variants.{Found}
 use Rattle.rules.specs.Kinds.{PTR}
 use Rattle.rules.specs.Refusal.{ok}
 use Rattle.rules.specs.Types.{resolve, chain, sizeOf, elements, flavourless, sameText, typesCompatible, typesWithin, meet, fieldsCompatible, fieldsWithin, meetFields}
-use Rattle.rules.specs.Access.{member, element, lastOf, localFirstBits, localOpen, localMember, localElement, localStep, localSteps, localWalk}
+use Rattle.rules.specs.Access.{member, element, lastOf, localFirstBits, localOpen, localMember, elementBits, localElement, localStep, localSteps, firstBits, localWalk}
 use Rattle.rules.specs.Matching.{isCandidate, fieldMatch, targetSteps, targetStep, targetMember, search, level, atElement}
 use Rattle.worked.specs.Make.{entry, int, struct, array, to, viewOf}
 
@@ -41,9 +41,9 @@ unfolding flavourless
 flavours = (refl, refl)
 
 -- "0:1:1:0:2" on a: [0], .s, .z, [2], at bit 32 + 32 + 0 + 64
-pub walk : localWalk A 2 (0 ∷ 1 ∷ 1 ∷ 0 ∷ 2 ∷ [])
+pub walk : localWalk (A .typ) 2 (0 ∷ 1 ∷ 1 ∷ 0 ∷ 2 ∷ [])
     ≡ ok (record { typ = 1; path = element 2 0 ∷ member 2 1 ∷ member 4 0 ∷ element 1 2 ∷ []; bits = 128 })
-unfolding localWalk localSteps localStep localMember localElement localOpen localFirstBits lastOf resolve chain sizeOf elements
+unfolding localWalk firstBits localSteps localStep localMember localElement elementBits localOpen localFirstBits lastOf resolve chain sizeOf elements
 walk = refl
 
 -- struct a { int x; int y; };

@@ -14,15 +14,14 @@ use Rattle.rules.specs.declared.Record.{Record}
 use Rattle.rules.specs.declared.Refusal.the-variants.{KindTooBig, NoMatch}
 use Rattle.rules.specs.declared.Answer.the-variants.{Applied, Poisoned, Refused}
 use Rattle.rules.specs.Kinds.{fieldByteOffset, typeSize}
-use Rattle.rules.specs.Refusal.{number}
 use Rattle.rules.specs.Types.{resolve, chain, sizeOf, elements, flavourless, sameText, fieldsCompatible, fieldsWithin, meetFields}
-use Rattle.rules.specs.Access.{parse, numbers, split, part, decimal, digits, lastOf, localFirstBits, localMember, localStep, localSteps, localWalk, fieldAccess, typeAccess, localAccess}
+use Rattle.rules.specs.Access.{parse, numbers, split, part, decimal, digits, lastOf, localFirstBits, localMember, localStep, localSteps, firstBits, localWalk, fieldAccess, typeAccess, localAccess}
 use Rattle.rules.specs.Value.{localValue, fieldValue, memberValue, plainValue, loadValue}
 use Rattle.rules.specs.Matching.{isCandidate, event, fieldMatch, targetSteps, targetStep, targetMember, search, level, atElement}
 use Rattle.rules.specs.Apply.{patch, patchFront, patchClass, patchMemory, resize, withOff, code}
 use Rattle.rules.specs.Record.{turn, over, eventAt, matches, absent, conclude, resizing, compute, accessed, relocated, apply, recordOf}
 use Rattle.rules.specs.List.{listOf, appliedOf}
-use Rattle.rules.specs.Report.{report, reportFrom, linesOf, decimalIn}
+use Rattle.rules.specs.Report.{report, reportFrom, lines, insnShown, valueShown, decimalIn, decimal as shown}
 use Rattle.worked.specs.Make.{entry, int, struct, array, viewOf, rec}
 
 -- Section 9's report
@@ -54,12 +53,12 @@ records = rec 16 2 7 fieldByteOffset ∷ rec 32 3 11 typeSize ∷ []
 
 -- What is answered, and the instructions afterwards
 pub ran : listOf L T 0 (insns 0) records ≡ record { answers = Applied 16 ∷ Refused NoMatch ∷ []; insns = insns 16 }
-unfolding textAt cut putAt resolve chain sizeOf elements flavourless sameText fieldsCompatible fieldsWithin meetFields parse numbers split part decimal digits lastOf localFirstBits localMember localStep localSteps localWalk fieldAccess typeAccess localAccess localValue fieldValue memberValue plainValue loadValue isCandidate event fieldMatch targetSteps targetStep targetMember search level atElement patch patchFront patchClass patchMemory resize withOff code turn over eventAt matches absent conclude resizing compute accessed relocated apply recordOf listOf
+unfolding textAt cut putAt resolve chain sizeOf elements flavourless sameText fieldsCompatible fieldsWithin meetFields parse numbers split part decimal digits lastOf localFirstBits localMember localStep localSteps firstBits localWalk fieldAccess typeAccess localAccess localValue fieldValue memberValue plainValue loadValue isCandidate event fieldMatch targetSteps targetStep targetMember search level atElement patch patchFront patchClass patchMemory resize withOff code turn over eventAt matches absent conclude resizing compute accessed relocated apply recordOf listOf
 ran = refl
 
 -- The report, and how many records were applied before the refusal
 pub reported : report L T 0 (insns 0) records ≡ text
-unfolding report reportFrom linesOf decimalIn number
+unfolding report reportFrom lines insnShown valueShown shown decimalIn
 reported = rw ran
 
 pub applied-one : appliedOf (Applied 16 ∷ Refused NoMatch ∷ []) ≡ 1
@@ -71,5 +70,5 @@ pub reported-none : reportFrom 8 0 (rec 8 1 0 0 ∷ rec 16 1 0 12 ∷ []) (Poiso
     ≡ (114 ∷ 101 ∷ 99 ∷ 111 ∷ 114 ∷ 100 ∷ 61 ∷ 48 ∷ 10 ∷ 97 ∷ 110 ∷ 115 ∷ 119 ∷ 101 ∷ 114 ∷ 61 ∷ 48 ∷ 10 ∷ 105 ∷ 110 ∷ 115 ∷ 110 ∷ 61 ∷ 48 ∷ 10
     ∷ 118 ∷ 97 ∷ 108 ∷ 117 ∷ 101 ∷ 61 ∷ 112 ∷ 111 ∷ 105 ∷ 115 ∷ 111 ∷ 110 ∷ 10 ∷ 114 ∷ 101 ∷ 99 ∷ 111 ∷ 114 ∷ 100 ∷ 61 ∷ 49 ∷ 10
     ∷ 97 ∷ 110 ∷ 115 ∷ 119 ∷ 101 ∷ 114 ∷ 61 ∷ 52 ∷ 10 ∷ 105 ∷ 110 ∷ 115 ∷ 110 ∷ 61 ∷ 110 ∷ 111 ∷ 110 ∷ 101 ∷ 10 ∷ 118 ∷ 97 ∷ 108 ∷ 117 ∷ 101 ∷ 61 ∷ 110 ∷ 111 ∷ 110 ∷ 101 ∷ 10 ∷ [])
-unfolding reportFrom linesOf decimalIn number
+unfolding reportFrom lines insnShown valueShown shown decimalIn
 reported-none = refl

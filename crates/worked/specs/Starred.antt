@@ -14,7 +14,8 @@ use Rattle.rules.specs.Refusal.{Reply, ok, refused}
 use Rattle.rules.specs.Access.{parse, numbers, split, part, decimal, digits}
 use Rattle.rules.specs.Value.{plain, memberValue, bitfieldValue, bitfieldLoad, loadValue, variantValue}
 use Rattle.rules.specs.Apply.{Patch, done, stopped, patch, patchFront, patchClass, patchAlu, patchMemory, resize, sizeBits, withSize, patchWide, alsoNext, withImm, withOff, withCode, code, sourceRegister}
-use Rattle.rules.specs.Record.{writing, resizing}
+use Rattle.words.specs.Sign.{extended}
+use Rattle.rules.specs.Record.{resizable, writing, resizing}
 use Rattle.words.specs.Put.{putAt}
 use Rattle.worked.specs.Make.{entry, int, enum, viewOf}
 
@@ -75,7 +76,7 @@ pub record Starred : Type 0 where
       ≡ done (0x18 ∷ 1 ∷ 0 ∷ 0 ∷ 0xff ∷ 0xff ∷ 0xff ∷ 0xff ∷ 0 ∷ 0 ∷ 0 ∷ 0 ∷ 0 ∷ 0 ∷ 0 ∷ 0 ∷ [])
 
 pub starred : Starred
-unfolding parse numbers split part decimal digits memberValue bitfieldValue bitfieldLoad loadValue variantValue resizing patch patchFront patchClass patchAlu patchMemory resize sizeBits withSize patchWide alsoNext withImm withOff withCode code sourceRegister putAt
+unfolding parse numbers split part decimal digits memberValue bitfieldValue bitfieldLoad loadValue variantValue extended resizing resizable patch patchFront patchClass patchAlu patchMemory resize sizeBits withSize patchWide alsoNext withImm withOff withCode code sourceRegister putAt
 starred = record {
   two-parts = refl;
   plus = refl;
