@@ -3,6 +3,7 @@
 use mathlib.Core.Path.{_∙_, ap, sym}
 use mathlib.Core.List.{List}
 use Prim.Native.Nat.{ℕ}
+use native.Mathlib.Omega.{arith}
 use denote.Ref.{now}
 use Rattle.rules.specs.Apply.{withImm, high, alsoNext, patchWide}
 use Rattle.insn.specs.Patched.{patchOf}
@@ -13,7 +14,7 @@ use Rattle.insn.proofs.patch_wide.Statement.{statement}
 use Rattle.insn.proofs.patch_wide.Tie as tie
 
 sub-put-imm : tie.Need-sub-put-imm
-sub-put-imm c = room (c .before .before .before .before .before .put-imm .last .0) (sym (c .before .has-successor .ensures) ∙ c .if1 .taken)
+sub-put-imm c = omega (arith, room (c .before .before .before .before .before .put-imm .last .0) (sym (c .before .has-successor .ensures) ∙ c .if1 .taken))
 
 part-put-imm-start : tie.Need-part-put-imm-start
 part-put-imm-start c = sub-put-imm c

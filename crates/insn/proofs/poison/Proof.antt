@@ -1,6 +1,7 @@
 -- `insn::poison` meets its contract.
 -- Assumes nothing.
 use mathlib.Core.Path.{_∙_, ap, sym}
+use native.Mathlib.Omega.{arith}
 use denote.Ref.{now}
 use Rattle.rules.specs.Apply.{poisoned}
 use Rattle.insn.specs.Patched.{patchOf}
@@ -14,7 +15,7 @@ returns : tie.Need-returns
 returns c = let a = c .before .before .before .before .before .before .before .before .args in poison-one _ (now (a .insns)) _ (a .index) (c .before .before .before .before .before .u8-at .ensures) (c .before .before .before .poison-insn .ensures) (c .if1 .taken)
 
 sub-poison-insn : tie.Need-sub-poison-insn
-sub-poison-insn c = room (c .before .before .before .before .before .before .poison-insn .last .0) (sym (c .before .has-successor .ensures) ∙ c .if2 .taken)
+sub-poison-insn c = omega (arith, room (c .before .before .before .before .before .before .poison-insn .last .0) (sym (c .before .has-successor .ensures) ∙ c .if2 .taken))
 
 part-poison-insn-start : tie.Need-part-poison-insn-start
 part-poison-insn-start c = sub-poison-insn c
