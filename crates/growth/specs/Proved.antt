@@ -76,6 +76,13 @@ module _ {s s′ : List ℕ} (g : Extended s s′) where
           rw (btf-in l (known .lb) (known .isBtf), btf-in s′ (g .new) (g .newAccepted))
           (call-read l lroom s′ room′ (known .lb) (g .new) insns section rs (known .isBtf) (known .room) (g .newAccepted) (lt-ltb (g .new .last) room′ long))
 
+  -- two runs of the code, whose promise is that what it says and the instructions that it leaves are the definition's;
+  pub demand3-runs : (l : List ℕ) (lroom room room′ : ℕ) (insns : List ℕ) (section : ℕ) (rs : List ℕ) (before after : Effect)
+      → before ≡ relocateOf l lroom s room insns section rs → after ≡ relocateOf l lroom s′ room′ insns section rs → g .new .last < room′
+      → SettledCall (btfIn l) (btfIn s) (recordsIn rs) before → Demand3Call (btfIn l) (btfIn s) (btfIn s′) section insns (recordsIn rs) before after
+  demand3-runs l lroom room room′ insns section rs before after p q long settled =
+      rw (p, q) (demand3-call l lroom room room′ insns section rs long (rw (← p) settled))
+
   -- and two calls by tables that were filled before, whatever local view stands beside.
   pub demand3-tables : (table table′ : List ℕ) → g .old .last < length table → g .new .last < length table′ → (L : View) (section : ℕ) (insns rs : List ℕ)
       → SettledCall L (tabView s (tabled s table) (g .old)) (recordsIn rs) (relocateRead L (tabView s (tabled s table) (g .old)) insns section rs)

@@ -38,6 +38,8 @@ computed = (
     gives11 = record { isBtf = refl; types = refl; strings = refl; accepts = refl; matches = refl; was = refl; harm = refl; isDue = refl; is = refl };
     conflictThen14 = record { isBtf = refl; types = refl; strings = refl; accepts = refl; matches = refl; was = refl; harm = refl; isDue = refl; is = refl };
     noValue = record { isBtf = refl; types = refl; strings = refl; accepts = refl; matches = refl; was = refl; harm = refl; isDue = refl; is = refl };
+    stillExists = record { isBtf = refl; types = refl; strings = refl; accepts = refl; matches = refl; was = refl; harm = refl; isDue = refl; is = refl };
+    otherId = record { isBtf = refl; types = refl; strings = refl; accepts = refl; matches = refl; was = refl; harm = refl; isDue = refl; is = refl };
     ownId = record { isBtf = refl; types = refl; strings = refl; accepts = refl; matches = refl; was = refl; harm = refl; isDue = refl; is = refl };
   },
   record { rule = refl; harm = refl; valuesOnlyKeeps = refl; ruleLater = refl; isDue = refl; earlyConflicts = refl },

@@ -65,7 +65,8 @@ poison = 0x85 ∷ 0 ∷ 0 ∷ 0 ∷ 0x10 ∷ 0x23 ∷ 0xad ∷ 0x0b ∷ []
 abbrev pub asking : ℕ → ℕ → ℕ → Record
 asking kind typ access = record { offset = 0; typ = typ; access = access; kind = kind }
 
--- the offset of s.b, whether it is there; the value of X; the offset of the deep x; that of p.v; the local id of s
+-- the offset of s.b, whether it is there; the value of X; the offset of the deep x; that of p.v; s itself: whether it is there,
+-- its id in the target, its id in the local BTF
 abbrev pub offsetOfB : Record
 offsetOfB = asking 0 2 21
 
@@ -80,6 +81,12 @@ offsetOfDeepX = asking 0 4 29
 
 abbrev pub offsetOfV : Record
 offsetOfV = asking 0 6 25
+
+abbrev pub existsS : Record
+existsS = asking 8 2 19
+
+abbrev pub targetIdOfS : Record
+targetIdOfS = asking 7 2 19
 
 abbrev pub idOfS : Record
 idOfS = asking 6 2 19
@@ -192,6 +199,13 @@ ConflictThen14 = Example (grownBy later) (sections 24 228 252 43 9) later offset
 abbrev pub NoValue : Type 0
 NoValue = Example (grownBy valued) (sections 24 192 216 43 8) valued offsetOfV Poisoned poison [] none Poisoned poison
 
+-- A type as a whole: it exists still; but with two that match there are two ids
+abbrev pub StillExists : Type 0
+StillExists = Example (grownBy alike) (sections 24 196 220 43 8) alike existsS (Applied 1) (imm 1) [] none (Applied 1) (imm 1)
+
+abbrev pub OtherId : Type 0
+OtherId = Example (grownBy alike) (sections 24 196 220 43 8) alike targetIdOfS (Applied 2) (imm 2) (7 ∷ []) (some (Conflict 7 1)) (Refused (Conflict 7 1)) insns
+
 -- `TypeIdLocal` looks at no target, whatever is there
 abbrev pub OwnId : Type 0
 OwnId = Example (grownBy turned) (sections 24 180 204 43 7) turned idOfS (Applied 2) (imm 2) [] none (Applied 2) (imm 2)
@@ -208,6 +222,8 @@ pub record Worked : Type 0 where
   pub gives11 : Gives11
   pub conflictThen14 : ConflictThen14
   pub noValue : NoValue
+  pub stillExists : StillExists
+  pub otherId : OtherId
   pub ownId : OwnId
 
 -- Two calls, of a list: offsetOfB on the first instruction, valueOfX on the second
