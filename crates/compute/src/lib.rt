@@ -32,14 +32,14 @@ ghost use lib.ListN.{length, take};
 ghost use Rattle.view.specs.View.{tabView};
 ghost use Rattle.rules.specs.Kinds.{asksExistence};
 ghost use Rattle.rules.specs.Fields.{intSigned};
-ghost use Rattle.rules.specs.Record.{resizable, resizing, writing, absent, conclude, accessed};
+ghost use Rattle.rules.specs.Record.{resizable, resizing, writing, absent, conclude, computed, accessed};
 ghost use Rattle.rules.specs.Refusal.{bind};
 ghost use Rattle.rules.specs.Access.{last};
 ghost use Rattle.rules.specs.Value.{plain, localValue};
 ghost use Rattle.access.specs.Replies.{partsOf, accessOf};
 ghost use Rattle.value.specs.Replies.{replyOf};
 ghost use Rattle.rules.specs.Call.{recordAt};
-ghost use Rattle.compute.specs.Replies.{worthOf, endlessAfter};
+ghost use Rattle.compute.specs.Replies.{worthOf, writeOf, endlessAfter};
 
 const BTF_KIND_INT: u32 = 1;
 
@@ -51,8 +51,14 @@ pub enum Concluded {
     Refused(Refusal),
 }
 
+// What a record writes, or why it is refused.
+pub enum Relocated {
+    Writes(Write),
+    Refused(Refusal),
+}
+
 // Record number k of a list.
-fn record_at(records: &[u8], k: usize) -> Record
+pub fn record_at(records: &[u8], k: usize) -> Record
     requires { ⌜ 16 * k + 16 ≤ length (now records) ⌝ }
     ensures { λ r. ⌜ r ≡ recordAt (now (records .entry)) k ⌝ }
 {
@@ -275,5 +281,32 @@ pub fn own_value(bytes: &[u8], table: &[u32], btf: Btf, kind: u32, access: Acces
         ),
         Reach::Whole => Valued::Known(plain_value(0)),
         Reach::Variant(id, k) => Valued::Known(plain_value(0)),
+    }
+}
+
+// The target's value comes first, then the local one, which must be there.
+fn write_computed(
+    local: &[u8],
+    ltable: &[u32],
+    lbtf: Btf,
+    target: &[u8],
+    ttable: &[u32],
+    tbtf: Btf,
+    mine: Valued,
+    theirs: Concluded,
+) -> Relocated
+    ensures { λ r. ⌜ writeOf r ≡ computed (tabView (now (local .entry)) (now (ltable .entry)) lbtf .typ) (tabView (now (target .entry)) (now (ttable .entry)) tbtf .typ) (replyOf mine) (worthOf theirs) ⌝ }
+{
+    match theirs {
+        Concluded::Refused(why) => Relocated::Refused(why),
+        Concluded::Worthy(worth) => {
+            match mine {
+                Valued::Refused(why) => Relocated::Refused(why),
+                Valued::Known(v) => {
+                    let w = write_for(local, ltable, lbtf, target, ttable, tbtf, v, worth);
+                    Relocated::Writes(w)
+                }
+            }
+        }
     }
 }

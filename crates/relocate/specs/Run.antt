@@ -12,6 +12,7 @@ use Rattle.rules.specs.declared.Record.{Record}
 use Rattle.rules.specs.declared.Answer.{Answer}
 use Rattle.rules.specs.declared.Answer.the-variants.{Applied, Poisoned, Refused}
 use Rattle.rules.specs.declared.Ending.the-variants.{Done, Stopped}
+use Rattle.rules.specs.declared.Said.{Said}
 use Rattle.rules.specs.Record.{Outcome, recordOf}
 use Rattle.rules.specs.List.{Run, follow, listOf}
 use Rattle.rules.specs.Call.{recordAt, recordsFrom, ended, endOf, Effect, runOf}
@@ -19,6 +20,10 @@ use Rattle.rules.specs.Call.{recordAt, recordsFrom, ended, endOf, Effect, runOf
 -- What an answer and the instructions it leaves make
 abbrev pub outcomeOf : Answer → List ℕ → Outcome
 outcomeOf a xs = record { answer = a; insns = xs }
+
+-- What is said and the instructions left make
+abbrev pub effectOf : Said → List ℕ → Effect
+effectOf s xs = record { said = s; insns = xs }
 
 -- What the answers of a run say from record number k on, and the instructions left
 abbrev effect : ℕ → Run → Effect
