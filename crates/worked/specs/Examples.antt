@@ -2,7 +2,8 @@
 -- Assumes nothing.
 use mathlib.Core.Path.{_≡_, refl}
 use mathlib.Core.Bool.{true}
-use mathlib.Core.List.{[], _∷_}
+use Prim.Native.Nat.{ℕ}
+use mathlib.Core.List.{List, [], _∷_, _++_}
 use Rattle.view.specs.Text.{textAt, cut}
 use Rattle.view.specs.View.{View}
 use Rattle.rules.specs.declared.Resolved.the-variants.{At}
@@ -14,6 +15,9 @@ use Rattle.rules.specs.Kinds.{PTR}
 use Rattle.rules.specs.Refusal.{ok}
 use Rattle.rules.specs.Types.{resolve, chain, sizeOf, elements, flavourless, sameText, typesCompatible, typesWithin, meet, fieldsCompatible, fieldsWithin, meetFields}
 use Rattle.rules.specs.Access.{member, element, lastOf, localFirstBits, localOpen, localMember, elementBits, localElement, localStep, localSteps, firstBits, localWalk}
+use Rattle.rules.specs.declared.Refusal.the-variants.{NoSuccessor}
+use Rattle.rules.specs.declared.Write.the-variants.{Poison}
+use Rattle.rules.specs.Apply.{done, stopped, code, poisoned, alsoNext, poison, patchFront, patch}
 use Rattle.rules.specs.Matching.{isCandidate, fieldMatch, targetSteps, targetStep, targetMember, search, level, atElement}
 use Rattle.worked.specs.Make.{entry, int, struct, array, to, viewOf}
 
@@ -71,3 +75,18 @@ match = refl
 pub compatible : (typesCompatible (A .typ) (C .typ) 7 4 ≡ Compatible) × (typesCompatible (A .typ) (A .typ) 2 8 ≡ Different)
 unfolding typesCompatible typesWithin meet resolve chain
 compatible = (refl, refl)
+
+-- Section 7: poison, of the second of two instructions, of both halves of a 64-bit immediate, and of one without its successor
+abbrev pub call : List ℕ
+call = 0x85 ∷ 0 ∷ 0 ∷ 0 ∷ 0x10 ∷ 0x23 ∷ 0xad ∷ 0x0b ∷ []
+
+abbrev pub load : List ℕ
+load = 0x61 ∷ 0x12 ∷ 8 ∷ 0 ∷ 0 ∷ 0 ∷ 0 ∷ 0 ∷ []
+
+abbrev pub wide : List ℕ
+wide = 0x18 ∷ 1 ∷ 0 ∷ 0 ∷ 4 ∷ 0 ∷ 0 ∷ 0 ∷ []
+
+pub poisons : (patch (load ++ load) 1 Poison ≡ done (load ++ call)) × (patch (wide ++ load) 0 Poison ≡ done (call ++ call))
+    × (patch (load ++ wide) 1 Poison ≡ stopped (NoSuccessor 2) (load ++ call))
+unfolding patch patchFront poison code poisoned alsoNext
+poisons = (refl, refl, refl)
