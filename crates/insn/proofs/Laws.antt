@@ -32,9 +32,7 @@ use Rattle.insn.specs.Patched.{patchOf, startOf}
 pub lent : (f : List ℕ → List ℕ) (a : ℕ) (xs ys : List ℕ) → ys ≡ f (take (length xs - a) (drop a xs)) → take a xs ++ (ys ++ drop (length xs - a) (drop a xs)) ≡ take a xs ++ f (drop a xs)
 lent f a xs ys e = back xs ys a ∙ ap (λ (l : List ℕ). take a xs ++ l) (e ∙ ap f (all-left xs a))
 
--- Signed numbers, as a call hands them on: read back from their bits
-
--- the one that some bits are
+-- A call hands a signed number on as its bits; those of the number that v is read as are v.
 pub signed : (w : Width) (v : ℕ) (z : ℤ) → Fits w v → z ≡ toZ w v → ofZ w (toZ w (ofZ w z)) ≡ v
 signed w v z f e = ap (λ (y : ℤ). ofZ w (toZ w (ofZ w y))) e ∙ ap (λ (k : ℕ). ofZ w (toZ w k)) (ofZ-toZ w v f) ∙ ofZ-toZ w v f
 
