@@ -5,6 +5,7 @@ use crate::bits::Bits;
 use crate::bits::bits_sum;
 use crate::bits::element_bits;
 use crate::bits::local_first_bits;
+use crate::text::MAX_PARTS;
 use crate::text::Parsed;
 use crate::text::Parsing;
 use btf::Btf;
@@ -43,8 +44,6 @@ const BTF_KIND_STRUCT: u32 = 4;
 const FIELD_RSHIFT: u32 = 5;
 
 const TYPE_SIZE: u32 = 9;
-
-const MAX_PARTS: usize = 64;
 
 // A step, or why there is none.
 pub enum Stepped {
