@@ -1,0 +1,62 @@
+-- The variants of the candidate i, whose enum is e, from the index j on: the first of the name decides what i gives.
+-- Assumes nothing.
+use Prim.Native.Nat.{ℕ, zero, suc, _+_, _≤_, _<_}
+use mathlib.Core.Path.{_≡_, refl, sym, ap, _∙_}
+use mathlib.Core.Bool.{Bool, true, false, cond}
+use mathlib.Core.List.{List}
+use mathlib.Core.Option.{some}
+use native.Mathlib.Omega.{arith}
+use native.Mathlib.Numerals.{add-one}
+use lib.ListN.{length, drop, drop-of-length-le}
+use Rattle.kinds.specs.declared.Entry.{Entry}
+use Rattle.view.specs.View.{View}
+use Rattle.rules.specs.declared.Resolved.the-variants.{At, Endless}
+use Rattle.rules.specs.declared.Refusal.the-variants.{Unresolved}
+use Rattle.rules.specs.declared.Event.{Event}
+use Rattle.rules.specs.declared.Event.the-variants.{Nothing, Matched, Bad}
+use Rattle.rules.specs.declared.Matches.{Matches}
+use Rattle.rules.specs.Kinds.{isEnum}
+use Rattle.rules.specs.Fields.{entryAt}
+use Rattle.rules.specs.Types.{resolve, sameFlavourless}
+use Rattle.rules.specs.Matching.{variantNamed, variantEvent, enumEvent}
+use Rattle.rules.specs.Turns.{variant-turn}
+use Rattle.matching.specs.Candidates.{variantWorth, enumEvents}
+use Rattle.matching.proofs.Folding.{Folding}
+
+pub record Scanning (f : ℕ → Event) (last n : ℕ) (s : Matches) (i₀ i : ℕ) (T : View) (k : ℕ) (name : List ℕ) (e m j : ℕ) : Type 0 where
+  pub same : i ≡ i₀
+  pub fold : Folding f last n s i
+  pub upto : i ≤ n
+  pub all : m ≡ length (T .typ e .entries)
+  pub here : f i ≡ variantEvent k (T .typ e) (variantNamed (T .text) name (drop j (T .typ e .entries)))
+
+module _ (T : View) (k : ℕ) (name : List ℕ) (i : ℕ) where
+  pub enum-endless : {x : Event} → x ≡ enumEvents T k name i → resolve (T .typ) i ≡ Endless → x ≡ Bad Unresolved
+  unfolding enumEvents
+  enum-endless h r = h ∙ rw r
+
+  pub enum-other : {x : Event} → x ≡ enumEvents T k name i → {e : ℕ} → resolve (T .typ) i ≡ At e → isEnum (T .typ e .kind) ≡ false → x ≡ Nothing
+  unfolding enumEvents enumEvent
+  enum-other h r b = h ∙ rw (r, b)
+
+  pub scanning-first : {f : ℕ → Event} {last n : ℕ} {s : Matches} → Folding f last n s i → i ≤ n → f i ≡ enumEvents T k name i
+      → {e : ℕ} → resolve (T .typ) i ≡ At e → isEnum (T .typ e .kind) ≡ true → {m : ℕ} → m ≡ length (T .typ e .entries) → Scanning f last n s i i T k name e m 0
+  unfolding enumEvents enumEvent
+  scanning-first v l h r b a = record { same = refl; fold = v; upto = l; all = a; here = h ∙ rw (r, b) }
+
+module _ {f : ℕ → Event} {last n : ℕ} {s : Matches} {i₀ i : ℕ} {T : View} {k : ℕ} {name : List ℕ} {e m j : ℕ} (v : Scanning f last n s i₀ i T k name e m j) where
+  pub scanning-none : m ≤ j → f i ≡ Nothing
+  unfolding variantNamed
+  scanning-none h = v .here ∙ rw (drop-of-length-le (T .typ e .entries) {i = j} (omega (arith, v .all)))
+
+  module _ (h : j < m) {x : Entry} {text : List ℕ} {same : Bool} (p : x ≡ entryAt (T .typ e) j) (q : text ≡ T .text (x .name)) (o : same ≡ sameFlavourless name text) where
+    turned : f i ≡ variantEvent k (T .typ e) (cond same (some x) (variantNamed (T .text) name (drop (suc j) (T .typ e .entries))))
+    turned =
+        let g : j < length (T .typ e .entries) = omega (arith, v .all) in
+        v .here ∙ ap (variantEvent k (T .typ e)) (variant-turn (T .text) name (T .typ e) j g) ∙ rw (o, q, p)
+
+    pub scanning-found : same ≡ true → f i ≡ Matched 0 (variantWorth k (T .typ e) x)
+    scanning-found b = turned ∙ rw b
+
+    pub scanning-next : same ≡ false → Scanning f last n s i₀ i T k name e m (j + 1)
+    scanning-next b = record { same = v .same; fold = v .fold; upto = v .upto; all = v .all; here = rw add-one (turned ∙ rw b) }

@@ -1,0 +1,71 @@
+-- The fold over all target types as the code goes: a candidate by the kind and the name that were found before, and what it gives.
+use Prim.Native.Nat.{ℕ, zero, suc}
+use mathlib.Core.Path.{_≡_, refl}
+use mathlib.Core.Bool.{Bool, cond, _&&_}
+use mathlib.Core.List.{List}
+use lib.Dec.{eqb}
+use Rattle.kinds.specs.declared.Entry.{Entry}
+use Rattle.kinds.specs.Types.{Ty}
+use Rattle.view.specs.View.{View}
+use Rattle.rules.specs.declared.Value.{Value}
+use Rattle.rules.specs.declared.Worth.{Worth}
+use Rattle.rules.specs.declared.Worth.the-variants.{Known}
+use Rattle.rules.specs.declared.Record.{Record}
+use Rattle.rules.specs.declared.Event.{Event}
+use Rattle.rules.specs.declared.Event.the-variants.{Nothing}
+use Rattle.rules.specs.declared.Matches.{Matches}
+use Rattle.rules.specs.declared.Matches.the-variants.{Unmatched, Kept, Halted}
+use Rattle.rules.specs.Kinds.{enumExists}
+use Rattle.rules.specs.Refusal.{Reply}
+use Rattle.rules.specs.Types.{resolve, sameFlavourless, typesCompatible}
+use Rattle.rules.specs.Fields.{entryAt}
+use Rattle.rules.specs.Access.{Access, whole, variant}
+use Rattle.rules.specs.Value.{plain, variantValue, typeValue}
+use Rattle.rules.specs.Matching.{isCandidate, typeEvent, enumEventAt, event}
+use Rattle.rules.specs.Record.{over, eventAt, matches}
+
+-- The rules' isCandidate, for a local type of this kind and name
+abbrev pub candidateBy : ℕ → List ℕ → View → ℕ → Bool
+candidateBy own name T i = eqb own (T .typ i .kind) && sameFlavourless name (T .text (T .typ i .name))
+
+-- What id i gives, where f tells what a candidate gives
+unfoldable pub among : View → ℕ → List ℕ → (ℕ → Event) → ℕ → Event
+among T own name f i = let e = f i in cond (candidateBy own name T i) e Nothing
+
+-- All ids, in order from 0
+unfoldable pub folded : View → ℕ → List ℕ → (ℕ → Event) → Matches
+folded T own name f = over (among T own name f) Unmatched 0 (suc (T .count))
+
+-- The conflicts counted so far
+abbrev pub conflicts : Matches → ℕ
+conflicts Unmatched = zero
+conflicts (Kept b v c n) = n
+conflicts (Halted r) = zero
+
+-- What the variant e of the enum t is worth to a record of kind k
+abbrev pub variantWorth : ℕ → Ty → Entry → Worth
+variantWorth k t e = Known (plain (cond (eqb k enumExists) 1 (variantValue t e)))
+
+-- What a candidate gives to a record of kind k on the local type id as a whole
+unfoldable pub typeEvents : View → View → ℕ → ℕ → ℕ → Event
+typeEvents L T k id i = typeEvent (typesCompatible (L .typ) (T .typ) id i) (typeValue (T .typ) k i)
+
+-- What a candidate gives to a record of kind k on a variant of this name
+unfoldable pub enumEvents : View → ℕ → List ℕ → ℕ → Event
+enumEvents T k name i = enumEventAt T k name (resolve (T .typ) i)
+
+-- The folds are the rules' matches.
+
+module _ (L T : View) (r : Record) {own : ℕ} {name : List ℕ} (p : own ≡ L .typ (r .typ) .kind) (q : name ≡ L .text (L .typ (r .typ) .name)) where
+  pub all-matches : (a : Access) (mine : Reply Value) → folded T own name (event L T (r .kind) (r .typ) a mine) ≡ matches L T r a mine
+  unfolding folded among matches eventAt isCandidate
+  all-matches a mine = rw (p, q)
+
+  pub type-all : (mine : Reply Value) → folded T own name (typeEvents L T (r .kind) (r .typ)) ≡ matches L T r whole mine
+  unfolding folded among matches eventAt isCandidate typeEvents event
+  type-all mine = rw (p, q)
+
+  pub enum-all : (of x : ℕ) (mine : Reply Value) {v : List ℕ} → v ≡ L .text (entryAt (L .typ of) x .name)
+      → folded T own name (enumEvents T (r .kind) v) ≡ matches L T r (variant of x) mine
+  unfolding folded among matches eventAt isCandidate enumEvents event
+  enum-all of x mine e = rw (p, q, e)

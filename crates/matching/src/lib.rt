@@ -1,0 +1,222 @@
+// Candidates and what is kept of their matches: all target types, in id order from 0.
+use btf::Btf;
+use compat::types_are_compatible;
+use kinds::Entry;
+use rules::Compat;
+use rules::Event;
+use rules::Matches;
+use rules::Refusal;
+use rules::Resolved;
+use rules::Worth;
+use types::is_enum;
+use types::resolve_type;
+use types::same_flavourless;
+use value::Valued;
+use value::plain_value;
+use value::type_value;
+use value::variant_value;
+use view::count_of;
+use view::entry_of;
+use view::kind_of;
+use view::name_of;
+use view::text_of;
+ghost use mathlib.Core.Path.{_≡_};
+ghost use Prim.Native.Nat.{_+_, _<_};
+ghost use Rattle.view.specs.View.{tabView};
+ghost use Rattle.rules.specs.declared.Event.the-variants.{Matched};
+ghost use Rattle.rules.specs.Record.{agree, agrees, turn};
+ghost use Rattle.matching.specs.Candidates.{candidateBy, conflicts, variantWorth, typeEvents, enumEvents, folded};
+ghost use Rattle.value.specs.Replies.{replyOf};
+ghost use Rattle.rules.specs.Matching.{worth};
+
+const ENUM_VARIANT_EXISTS: u32 = 10;
+
+// Whether the target's type id has this kind and, but for flavours, this name.
+pub fn is_candidate(
+    target: &[u8],
+    ttable: &[u32],
+    tbtf: Btf,
+    kind: u32,
+    name: &[u8],
+    id: u32,
+) -> bool
+    ensures { λ r. ⌜ r ≡ candidateBy kind (now (name .entry)) (tabView (now (target .entry)) (now (ttable .entry)) tbtf) id ⌝ }
+{
+    if kind != kind_of(target, ttable, tbtf, id) {
+        return false;
+    }
+    same_flavourless(
+        name,
+        text_of(target, tbtf, name_of(target, ttable, tbtf, id)),
+    )
+}
+
+// Two values conflict only where both are there.
+fn values_agree(first: Worth, other: Worth) -> bool
+    ensures { λ r. ⌜ r ≡ agree first other ⌝ }
+{
+    match first {
+        Worth::Unknown => true,
+        Worth::Known(v) => match other {
+            Worth::Unknown => true,
+            Worth::Known(w) => v.number == w.number,
+        },
+    }
+}
+
+// A match does not conflict with the first one: at the same bits, with no other value.
+fn matches_agree(b: u64, v: Worth, bits: u64, worth: Worth) -> bool
+    ensures { λ r. ⌜ r ≡ agrees b v bits worth ⌝ }
+{
+    if b != bits {
+        return false;
+    }
+    values_agree(v, worth)
+}
+
+// Candidate id matches: the first match is kept, conflicts with it are counted.
+fn keep(kept: Matches, id: u32, bits: u64, worth: Worth) -> Matches
+    requires { ⌜ conflicts kept + 1 < 18446744073709551616 ⌝ }
+    ensures { λ r. ⌜ r ≡ turn kept id (Matched bits worth) ⌝ }
+{
+    match kept {
+        Matches::Halted(r) => Matches::Halted(r),
+        Matches::Unmatched => Matches::Kept(bits, worth, 0, 0),
+        Matches::Kept(b, v, first, n) => {
+            if matches_agree(b, v, bits, worth) {
+                return Matches::Kept(b, v, first, n);
+            }
+            if n == 0 {
+                return Matches::Kept(b, v, id, 1);
+            }
+            Matches::Kept(b, v, first, n + 1)
+        }
+    }
+}
+
+// The name of the type with an id.
+fn type_name<'a>(bytes: &'a [u8], table: &[u32], btf: Btf, id: u32) -> &'a [u8]
+    ensures { λ r. ⌜ now r ≡ tabView (now (bytes .entry)) (now (table .entry)) btf .text (tabView (now (bytes .entry)) (now (table .entry)) btf .typ id .name) ⌝ }
+{
+    text_of(bytes, btf, name_of(bytes, table, btf, id))
+}
+
+// A value that must be there, of a type that matches at bit 0.
+fn worth_event(v: Valued) -> Event
+    ensures { λ r. ⌜ r ≡ worth (replyOf v) ⌝ }
+{
+    match v {
+        Valued::Known(w) => Event::Matched(0, Worth::Known(w)),
+        Valued::Refused(r) => Event::Bad(r),
+    }
+}
+
+// What the target's type id gives, as a whole, to a record of this kind on the local type `typ`.
+fn type_event(
+    local: &[u8],
+    ltable: &[u32],
+    lbtf: Btf,
+    target: &[u8],
+    ttable: &[u32],
+    tbtf: Btf,
+    kind: u32,
+    typ: u32,
+    id: u32,
+) -> Event
+    ensures { λ r. ⌜ r ≡ typeEvents (tabView (now (local .entry)) (now (ltable .entry)) lbtf) (tabView (now (target .entry)) (now (ttable .entry)) tbtf) kind typ id ⌝ }
+{
+    let fit = types_are_compatible(local, ltable, lbtf, target, ttable, tbtf, typ, id);
+    match fit {
+        Compat::Compatible => worth_event(type_value(target, ttable, tbtf, kind, id)),
+        Compat::Different => Event::Nothing,
+        Compat::Broken => Event::Bad(Refusal::Unresolved),
+        Compat::Beyond => Event::Bad(Refusal::TooDeep),
+    }
+}
+
+// The matches of a record of a type kind on the local type `typ`.
+fn type_matches(
+    local: &[u8],
+    ltable: &[u32],
+    lbtf: Btf,
+    target: &[u8],
+    ttable: &[u32],
+    tbtf: Btf,
+    kind: u32,
+    own: u32,
+    name: &[u8],
+    typ: u32,
+) -> Matches
+    ensures { λ r. ⌜ r ≡ folded (tabView (now (target .entry)) (now (ttable .entry)) tbtf) own (now (name .entry)) (typeEvents (tabView (now (local .entry)) (now (ltable .entry)) lbtf) (tabView (now (target .entry)) (now (ttable .entry)) tbtf) kind typ) ⌝ }
+{
+    let mut kept = Matches::Unmatched;
+    for id in 0..=tbtf.last {
+        if !is_candidate(target, ttable, tbtf, own, name, id) {
+            continue;
+        }
+        let event = type_event(local, ltable, lbtf, target, ttable, tbtf, kind, typ, id);
+        match event {
+            Event::Nothing => {}
+            Event::Matched(bits, worth) => {
+                kept = keep(kept, id, bits, worth);
+            }
+            Event::Bad(r) => {
+                return Matches::Halted(r);
+            }
+        }
+    }
+    kept
+}
+
+// A variant of the target's enum id: that it exists, or its value.
+fn variant_worth(
+    target: &[u8],
+    ttable: &[u32],
+    tbtf: Btf,
+    kind: u32,
+    id: u32,
+    found: Entry,
+) -> Worth
+    ensures { λ r. ⌜ r ≡ variantWorth kind (tabView (now (target .entry)) (now (ttable .entry)) tbtf .typ id) found ⌝ }
+{
+    if kind == ENUM_VARIANT_EXISTS {
+        return Worth::Known(plain_value(1));
+    }
+    Worth::Known(plain_value(variant_value(target, ttable, tbtf, id, found)))
+}
+
+// The matches of a record of an enum kind, on a local variant of this name: a candidate is settled by its first variant of
+// the same name, but for flavours.
+fn enum_matches(
+    target: &[u8],
+    ttable: &[u32],
+    tbtf: Btf,
+    kind: u32,
+    own: u32,
+    name: &[u8],
+    variant: &[u8],
+) -> Matches
+    ensures { λ r. ⌜ r ≡ folded (tabView (now (target .entry)) (now (ttable .entry)) tbtf) own (now (name .entry)) (enumEvents (tabView (now (target .entry)) (now (ttable .entry)) tbtf) kind (now (variant .entry))) ⌝ }
+{
+    let mut kept = Matches::Unmatched;
+    'candidates: for id in 0..=tbtf.last {
+        if !is_candidate(target, ttable, tbtf, own, name, id) {
+            continue 'candidates;
+        }
+        let r = resolve_type(target, ttable, tbtf, id);
+        let Resolved::At(e) = r else {
+            return Matches::Halted(Refusal::Unresolved);
+        };
+        if !is_enum(kind_of(target, ttable, tbtf, e)) {
+            continue 'candidates;
+        }
+        for k in 0..count_of(target, ttable, tbtf, e) {
+            let v = entry_of(target, ttable, tbtf, e, k);
+            if same_flavourless(variant, text_of(target, tbtf, v.name)) {
+                kept = keep(kept, id, 0, variant_worth(target, ttable, tbtf, kind, e, v));
+                continue 'candidates;
+            }
+        }
+    }
+    kept
+}
