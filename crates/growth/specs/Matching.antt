@@ -25,7 +25,7 @@ use Rattle.rules.specs.Limits.{maxSpecLen, maxLevels, bitLimit}
 use Rattle.rules.specs.Fields.{memberBits, entryAt}
 use Rattle.rules.specs.Refusal.{Reply, ok, refused, bind, bitOffset, number}
 use Rattle.rules.specs.Types.{resolve, resolved, sizeOf, sized, isEmpty, sameText, fieldsCompatible}
-use Rattle.rules.specs.Access.{element}
+use Rattle.rules.specs.Access.{element, elementBits}
 use Rattle.rules.specs.Matching.{next, orElse, reached, grown, decided, Sought, atMember, level, membersOf, noLevel, search, targetMember, atElement, targetOpen, targetElement, targetElementAt, targetStep, targetSteps, origin, fieldMatch}
 use Rattle.growth.specs.Demand3.{causes}
 use Rattle.growth.specs.Types.{Low, resolved-same, resolve-low, resolve-grow, size-grow, fields-grow}
@@ -86,17 +86,13 @@ module _ (T : View) where
   either true x y p q = p
   either false x y p q = q
 
-  -- The stages after a bit offset and after a size
+  -- The stage after a bit offset
   bits-in : (n : ℕ) (f : ℕ → Reply Target) → ((b : ℕ) → In T (reached (f b))) → In T (reached (bind (bitOffset n) f))
   bits-in n f h = go (ltb n bitLimit)
     where
       go : (t : Bool) → In T (reached (bind (cond t (ok n) (refused BitsTooBig)) f))
       go true = h n
       go false = failed-in BitsTooBig causes-bits
-
-  sized-in : (x : Sized) (f : ℕ → Reply Target) → ((n : ℕ) → In T (reached (f n))) → In T (reached (sized x f))
-  sized-in (Bytes n) f h = h n
-  sized-in (Unsized why i) f h = unresolved-in
 
   grown-in : (b : ℕ) (x : Search) → In T x → In T (grown b x)
   grown-in b (Found s) h =
@@ -141,16 +137,20 @@ module _ (T : View) where
   unfolding atElement
   element-in typ c s k j h = go (eqb (s .parts) maxSpecLen)
     where
-      counted : Reply Target
-      counted = sized (sizeOf typ j) (λ n. bind (bitOffset (k * n * 8)) (λ e. bind (bitOffset (s .bits + e)) (λ b.
-          ok (record { typ = j; last = element j k; bits = b; parts = suc (s .parts) }))))
+      found : ℕ → Reply Target
+      found b = ok (record { typ = j; last = element j k; bits = b; parts = suc (s .parts) })
 
-      there : In T (reached counted)
-      there = sized-in (sizeOf typ j) _ (λ n. bits-in (k * n * 8) _ (λ e. bits-in (s .bits + e) _ (λ b. found-in _ (h, h))))
+      there : (b : Bool) (e : ℕ) → In T (reached (bind (bind (cond b (ok e) (refused BitsTooBig)) (λ e. bitOffset (s .bits + e))) found))
+      there true e = bits-in (s .bits + e) found (λ b. found-in _ (h, h))
+      there false e = failed-in BitsTooBig causes-bits
 
-      go : (b : Bool) → In T (reached (cond b (refused (MaximumNesting c)) counted))
+      counted : (z : Sized) → In T (reached (bind (sized z (λ n. bind (bitOffset (k * n * 8)) (λ e. bitOffset (s .bits + e)))) found))
+      counted (Bytes n) = there (ltb (k * n * 8) bitLimit) (k * n * 8)
+      counted (Unsized why i) = unresolved-in
+
+      go : (b : Bool) → In T (reached (cond b (refused (MaximumNesting c)) (bind (elementBits typ (s .bits) k j) found)))
       go true = failed-in (MaximumNesting c) (causes-nesting c)
-      go false = there
+      go false = unfold elementBits in counted (sizeOf typ j)
 
   resolved-in : (c : ℕ) (s : Target) (k : ℕ) (x : Resolved) → Low T x → In T (reached (resolved x (atElement (T .typ) c s k)))
   resolved-in c s k Endless l = unresolved-in
@@ -222,7 +222,7 @@ module _ {T E : View} (cl : Closed T) (ex : Extends T E) where
       (resolve-low cl i h))
 
   element-grow : (c : ℕ) (s : Target) (k j : ℕ) → j ≤ T .count → atElement (E .typ) c s k j ≡ atElement (T .typ) c s k j
-  unfolding atElement
+  unfolding atElement elementBits
   element-grow c s k j h = rw (size-grow cl ex j h)
 
   -- The element type of an array, and where it leads

@@ -26,6 +26,11 @@ turn-nothing Unmatched i = refl
 turn-nothing (Kept b v c n) i = refl
 turn-nothing (Halted r) i = refl
 
+pub over-nothing : (f : ℕ → Event) (s : Matches) (i n : ℕ) → ((j : ℕ) → f j ≡ Nothing) → over f s i n ≡ s
+unfolding over
+over-nothing f s i zero h = refl
+over-nothing f s i (suc n) h = rw (h i, turn-nothing s i) (over-nothing f s (suc i) n h)
+
 turn-bad : (s : Matches) (i : ℕ) (r : Refusal) → halted s ≡ false → turn s i (Bad r) ≡ Halted r
 unfolding turn
 turn-bad Unmatched i r h = refl

@@ -1,14 +1,13 @@
 -- What is kept when a candidate matches.
 -- Assumes nothing.
-use Prim.Native.Nat.{ℕ, zero, suc, _+_, _≤_}
-use mathlib.Core.Path.{_≡_, refl, sym, ap, _∙_}
-use mathlib.Core.Bool.{Bool, true, false, cond}
-use native.Mathlib.Omega.{arith}
+use Prim.Native.Nat.{ℕ, zero, suc, _+_}
+use mathlib.Core.Path.{_≡_, refl, sym}
+use mathlib.Core.Bool.{Bool, true, false}
 use native.Mathlib.Numerals.{add-one}
 use Rattle.rules.specs.declared.Worth.{Worth}
 use Rattle.rules.specs.declared.Event.the-variants.{Matched}
 use Rattle.rules.specs.declared.Matches.{Matches}
-use Rattle.rules.specs.declared.Matches.the-variants.{Unmatched, Kept, Halted}
+use Rattle.rules.specs.declared.Matches.the-variants.{Kept}
 use Rattle.rules.specs.Record.{agrees, firstOf, turn}
 
 module _ {s : Matches} {b : ℕ} {v : Worth} {c n : ℕ} (e : s ≡ Kept b v c n) (i b′ : ℕ) (v′ : Worth) {same : Bool} (a : same ≡ agrees b v b′ v′) where

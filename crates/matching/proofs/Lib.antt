@@ -1,4 +1,5 @@
 pub mod Enums
 pub mod Events
+pub mod Fields
 pub mod Folding
 pub mod Keeping

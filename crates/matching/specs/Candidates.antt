@@ -1,12 +1,14 @@
 -- The fold over all target types as the code goes: a candidate by the kind and the name that were found before, and what it gives.
-use Prim.Native.Nat.{ℕ, zero, suc}
-use mathlib.Core.Path.{_≡_, refl}
+use Prim.Native.Nat.{ℕ, zero, suc, _≤_}
+use mathlib.Core.Path.{_≡_}
 use mathlib.Core.Bool.{Bool, cond, _&&_}
 use mathlib.Core.List.{List}
 use lib.Dec.{eqb}
+use lib.ListN.{length}
 use Rattle.kinds.specs.declared.Entry.{Entry}
 use Rattle.kinds.specs.Types.{Ty}
 use Rattle.view.specs.View.{View}
+use Rattle.rules.specs.declared.Accessor.{Accessor}
 use Rattle.rules.specs.declared.Value.{Value}
 use Rattle.rules.specs.declared.Worth.{Worth}
 use Rattle.rules.specs.declared.Worth.the-variants.{Known}
@@ -16,12 +18,12 @@ use Rattle.rules.specs.declared.Event.the-variants.{Nothing}
 use Rattle.rules.specs.declared.Matches.{Matches}
 use Rattle.rules.specs.declared.Matches.the-variants.{Unmatched, Kept, Halted}
 use Rattle.rules.specs.Kinds.{enumExists}
-use Rattle.rules.specs.Refusal.{Reply}
+use Rattle.rules.specs.Refusal.{Reply, ok, refused}
 use Rattle.rules.specs.Types.{resolve, sameFlavourless, typesCompatible}
 use Rattle.rules.specs.Fields.{entryAt}
-use Rattle.rules.specs.Access.{Access, whole, variant}
+use Rattle.rules.specs.Access.{Access, whole, variant, path}
 use Rattle.rules.specs.Value.{plain, variantValue, typeValue}
-use Rattle.rules.specs.Matching.{isCandidate, typeEvent, enumEventAt, event}
+use Rattle.rules.specs.Matching.{isCandidate, typeEvent, enumEventAt, fieldEvent, fieldMatch, event}
 use Rattle.rules.specs.Record.{over, eventAt, matches}
 
 -- The rules' isCandidate, for a local type of this kind and name
@@ -54,13 +56,24 @@ typeEvents L T k id i = typeEvent (typesCompatible (L .typ) (T .typ) id i) (type
 unfoldable pub enumEvents : View → ℕ → List ℕ → ℕ → Event
 enumEvents T k name i = enumEventAt T k name (resolve (T .typ) i)
 
+-- What a candidate gives to a record of kind k on a path of fields
+unfoldable pub fieldEvents : View → View → ℕ → Reply Value → List Accessor → ℕ → Event
+fieldEvents L T k mine steps i = fieldEvent (T .typ) k mine (fieldMatch L T steps i)
+
+-- A path of 1 to 64 steps: the first n of a table
+pub record FewSteps (n : ℕ) (steps : List Accessor) : Type 0 where
+  pub some : n ≡ 0 → ⊥
+  pub few : n ≤ 64
+  pub long : length steps ≡ 64
+
+-- The rules' matches of what a record accesses; an access that is refused ends all
+abbrev pub matchesOf : View → View → Record → Reply Access → Reply Value → Matches
+matchesOf L T r (ok a) mine = matches L T r a mine
+matchesOf L T r (refused q) mine = Halted q
+
 -- The folds are the rules' matches.
 
 module _ (L T : View) (r : Record) {own : ℕ} {name : List ℕ} (p : own ≡ L .typ (r .typ) .kind) (q : name ≡ L .text (L .typ (r .typ) .name)) where
-  pub all-matches : (a : Access) (mine : Reply Value) → folded T own name (event L T (r .kind) (r .typ) a mine) ≡ matches L T r a mine
-  unfolding folded among matches eventAt isCandidate
-  all-matches a mine = rw (p, q)
-
   pub type-all : (mine : Reply Value) → folded T own name (typeEvents L T (r .kind) (r .typ)) ≡ matches L T r whole mine
   unfolding folded among matches eventAt isCandidate typeEvents event
   type-all mine = rw (p, q)
@@ -69,3 +82,7 @@ module _ (L T : View) (r : Record) {own : ℕ} {name : List ℕ} (p : own ≡ L 
       → folded T own name (enumEvents T (r .kind) v) ≡ matches L T r (variant of x) mine
   unfolding folded among matches eventAt isCandidate enumEvents event
   enum-all of x mine e = rw (p, q, e)
+
+  pub field-all : (steps : List Accessor) (bits : ℕ) (mine : Reply Value) → folded T own name (fieldEvents L T (r .kind) mine steps) ≡ matches L T r (path steps bits) mine
+  unfolding folded among matches eventAt isCandidate fieldEvents event
+  field-all steps bits mine = rw (p, q)

@@ -1,17 +1,25 @@
 // Candidates and what is kept of their matches: all target types, in id order from 0.
+use access::walk::Accessed;
+use access::walk::Reach;
 use btf::Btf;
 use compat::types_are_compatible;
+use follow::path_step;
 use kinds::Entry;
+use rules::Accessor;
 use rules::Compat;
 use rules::Event;
 use rules::Matches;
+use rules::Record;
 use rules::Refusal;
 use rules::Resolved;
+use rules::Search;
+use rules::Target;
 use rules::Worth;
 use types::is_enum;
 use types::resolve_type;
 use types::same_flavourless;
 use value::Valued;
+use value::field_value;
 use value::plain_value;
 use value::type_value;
 use value::variant_value;
@@ -21,13 +29,19 @@ use view::kind_of;
 use view::name_of;
 use view::text_of;
 ghost use mathlib.Core.Path.{_≡_};
-ghost use Prim.Native.Nat.{_+_, _<_};
+ghost use Prim.Native.Nat.{_+_, _<_, _≤_};
+ghost use mathlib.Core.Bool.{cond};
+ghost use lib.Dec.{leb};
+ghost use lib.ListN.{take};
 ghost use Rattle.view.specs.View.{tabView};
 ghost use Rattle.rules.specs.declared.Event.the-variants.{Matched};
 ghost use Rattle.rules.specs.Record.{agree, agrees, turn};
-ghost use Rattle.matching.specs.Candidates.{candidateBy, conflicts, variantWorth, typeEvents, enumEvents, folded};
+ghost use Rattle.matching.specs.Candidates.{FewSteps, candidateBy, conflicts, variantWorth, typeEvents, enumEvents, fieldEvents, folded, matchesOf};
+ghost use Rattle.access.specs.Replies.{accessOf};
 ghost use Rattle.value.specs.Replies.{replyOf};
-ghost use Rattle.rules.specs.Matching.{worth};
+ghost use Rattle.rules.specs.Matching.{worth, fieldEvent};
+ghost use Rattle.rules.specs.Matching.{origin as nowhereYet};
+ghost use Rattle.rules.specs.declared.Search.the-variants.{Found};
 
 const ENUM_VARIANT_EXISTS: u32 = 10;
 
@@ -219,4 +233,221 @@ fn enum_matches(
         }
     }
     kept
+}
+
+// Before the first index.
+fn origin() -> Target
+    ensures { λ r. ⌜ r ≡ nowhereYet ⌝ }
+{
+    let last = Accessor {
+        typ: 0,
+        index: 0,
+        named: false,
+    };
+    Target {
+        typ: 0,
+        last: last,
+        bits: 0,
+        parts: 0,
+    }
+}
+
+// A path that leads to a place matches there, once the local value is there; the target's need not be.
+fn place_event(
+    target: &[u8],
+    ttable: &[u32],
+    tbtf: Btf,
+    kind: u32,
+    mine: Valued,
+    place: Target,
+) -> Event
+    ensures { λ r. ⌜ r ≡ fieldEvent ((tabView (now (target .entry)) (now (ttable .entry)) tbtf) .typ) kind (replyOf mine) (Found place) ⌝ }
+{
+    match mine {
+        Valued::Refused(r) => Event::Bad(r),
+        Valued::Known(_) => {
+            let last = place.last;
+            let theirs = field_value(target, ttable, tbtf, kind, last, place.bits);
+            match theirs {
+                Valued::Known(v) => Event::Matched(place.bits, Worth::Known(v)),
+                Valued::Refused(_) => Event::Matched(place.bits, Worth::Unknown),
+            }
+        }
+    }
+}
+
+// How many of a table's 64 steps a count takes.
+fn steps_in(count: usize) -> usize
+    ensures { λ r. ⌜ (r ≡ cond (leb count 64) count 64) × (r ≤ 64) ⌝ }
+{
+    if count <= 64 {
+        return count;
+    }
+    64
+}
+
+// The matches of a record of a field kind: each candidate follows the local path, and is left once a step finds nothing.
+fn field_matches(
+    local: &[u8],
+    ltable: &[u32],
+    lbtf: Btf,
+    target: &[u8],
+    ttable: &[u32],
+    tbtf: Btf,
+    kind: u32,
+    own: u32,
+    name: &[u8],
+    steps: [Accessor; 64],
+    count: usize,
+    mine: Valued,
+) -> Matches
+    requires { ⌜ FewSteps count steps ⌝ }
+    ensures { λ r. ⌜ r ≡ folded (tabView (now (target .entry)) (now (ttable .entry)) tbtf) own (now (name .entry)) (fieldEvents (tabView (now (local .entry)) (now (ltable .entry)) lbtf) (tabView (now (target .entry)) (now (ttable .entry)) tbtf) kind (replyOf mine) (take count steps)) ⌝ }
+{
+    let mut kept = Matches::Unmatched;
+    'candidates: for id in 0..=tbtf.last {
+        if !is_candidate(target, ttable, tbtf, own, name, id) {
+            continue 'candidates;
+        }
+        let mut place = origin();
+        for k in 0..count {
+            let step = path_step(
+                local,
+                ltable,
+                lbtf,
+                target,
+                ttable,
+                tbtf,
+                id,
+                place,
+                steps[k],
+                k,
+            );
+            match step {
+                Search::Found(s) => {
+                    place = s;
+                }
+                Search::Missing => {
+                    continue 'candidates;
+                }
+                Search::Failed(r) => {
+                    return Matches::Halted(r);
+                }
+            }
+        }
+        let event = place_event(target, ttable, tbtf, kind, mine, place);
+        match event {
+            Event::Nothing => {}
+            Event::Matched(bits, worth) => {
+                kept = keep(kept, id, bits, worth);
+            }
+            Event::Bad(r) => {
+                return Matches::Halted(r);
+            }
+        }
+    }
+    kept
+}
+
+// The same, for any count.
+fn path_matches(
+    local: &[u8],
+    ltable: &[u32],
+    lbtf: Btf,
+    target: &[u8],
+    ttable: &[u32],
+    tbtf: Btf,
+    kind: u32,
+    own: u32,
+    name: &[u8],
+    steps: [Accessor; 64],
+    count: usize,
+    mine: Valued,
+) -> Matches
+    ensures { λ r. ⌜ r ≡ folded (tabView (now (target .entry)) (now (ttable .entry)) tbtf) own (now (name .entry)) (fieldEvents (tabView (now (local .entry)) (now (ltable .entry)) lbtf) (tabView (now (target .entry)) (now (ttable .entry)) tbtf) kind (replyOf mine) (take count steps)) ⌝ }
+{
+    let n = steps_in(count);
+    if n == 0 {
+        return Matches::Unmatched;
+    }
+    field_matches(
+        local,
+        ltable,
+        lbtf,
+        target,
+        ttable,
+        tbtf,
+        kind,
+        own,
+        name,
+        steps,
+        n,
+        mine,
+    )
+}
+
+// What is kept of the matches of a record's candidates, given what it accesses and its local value.
+pub fn match_candidates(
+    local: &[u8],
+    ltable: &[u32],
+    lbtf: Btf,
+    target: &[u8],
+    ttable: &[u32],
+    tbtf: Btf,
+    relo: Record,
+    access: Accessed,
+    mine: Valued,
+) -> Matches
+    ensures { λ r. ⌜ r ≡ matchesOf (tabView (now (local .entry)) (now (ltable .entry)) lbtf) (tabView (now (target .entry)) (now (ttable .entry)) tbtf) relo (accessOf access) (replyOf mine) ⌝ }
+{
+    let kind = relo.kind;
+    let own = kind_of(local, ltable, lbtf, relo.typ);
+    let name = type_name(local, ltable, lbtf, relo.typ);
+    let reach = access.reach;
+    match reach {
+        Reach::Refused(r) => Matches::Halted(r),
+        Reach::Whole => {
+            type_matches(
+                local,
+                ltable,
+                lbtf,
+                target,
+                ttable,
+                tbtf,
+                kind,
+                own,
+                name,
+                relo.typ,
+            )
+        }
+        Reach::Variant(of, index) => {
+            let v = entry_of(local, ltable, lbtf, of, index);
+            enum_matches(
+                target,
+                ttable,
+                tbtf,
+                kind,
+                own,
+                name,
+                text_of(local, lbtf, v.name),
+            )
+        }
+        Reach::Path(count, _) => {
+            let steps = access.steps;
+            path_matches(
+                local,
+                ltable,
+                lbtf,
+                target,
+                ttable,
+                tbtf,
+                kind,
+                own,
+                name,
+                steps,
+                count,
+                mine,
+            )
+        }
+    }
 }

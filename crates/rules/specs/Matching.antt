@@ -31,7 +31,7 @@ use Rattle.rules.specs.declared.Refusal.the-variants.{MaximumNesting, Un
 use Rattle.rules.specs.Fields.{memberBits, entryAt}
 use Rattle.rules.specs.Refusal.{Reply, ok, refused, bind, bitOffset}
 use Rattle.rules.specs.Types.{resolve, resolved, sizeOf, sized, isEmpty, sameText, sameFlavourless, typesCompatible, fieldsCompatible}
-use Rattle.rules.specs.Access.{member, element, nowhere, Access, whole, variant, path}
+use Rattle.rules.specs.Access.{member, element, nowhere, elementBits, Access, whole, variant, path}
 use Rattle.rules.specs.Value.{plain, fieldValue, variantValue, typeValue}
 
 -- Candidates
@@ -151,8 +151,7 @@ targetMember L T c s m =
 unfoldable pub atElement : (ℕ → Ty) → ℕ → Target → ℕ → ℕ → Reply Target
 atElement typ c s k j =
     cond (eqb (s .parts) maxSpecLen) (refused (MaximumNesting c))
-    (sized (sizeOf typ j) (λ n. bind (bitOffset (k * n * 8)) (λ e. bind (bitOffset (s .bits + e)) (λ b.
-    ok (record { typ = j; last = element j k; bits = b; parts = suc (s .parts) })))))
+    (bind (elementBits typ (s .bits) k j) (λ b. ok (record { typ = j; last = element j k; bits = b; parts = suc (s .parts) })))
 
 -- A target array of 0 elements is open where it is its struct's last member.
 unfoldable pub targetOpen : Ty → Ty → ℕ → Bool

@@ -28,7 +28,7 @@ partsOf (Found s) = s .parts
 partsOf Missing = 0
 partsOf (Failed r) = 0
 
-either : (n : ℕ) (b : Bool) (x y : Search) → partsOf x ≤ n → partsOf y ≤ n → partsOf (cond b x y) ≤ n
+pub either : (n : ℕ) (b : Bool) (x y : Search) → partsOf x ≤ n → partsOf y ≤ n → partsOf (cond b x y) ≤ n
 either n true x y h g = h
 either n false x y h g = g
 

@@ -1,17 +1,13 @@
 -- The local member m, looked for in the target from the place s, on behalf of the candidate c: the rules' search with what it asks written out.
 use Prim.Native.Nat.{ℕ}
-use mathlib.Core.Bool.{Bool, _&&_, not}
-use lib.Dec.{leb}
 use Rattle.kinds.specs.declared.Entry.{Entry}
 use Rattle.view.specs.View.{View}
-use Rattle.kinds.specs.Types.{Ty}
-use Rattle.rules.specs.declared.Accessor.{Accessor}
 use Rattle.rules.specs.declared.Target.{Target}
 use Rattle.rules.specs.declared.Search.{Search}
 use Rattle.rules.specs.declared.Search.the-variants.{Found}
 use Rattle.rules.specs.Fields.{memberBits, entryAt}
 use Rattle.rules.specs.Types.{fieldsCompatible}
-use Rattle.rules.specs.Matching.{Sought, search, decided, grown, atMember, targetOpen}
+use Rattle.rules.specs.Matching.{Sought, search, decided, grown, atMember}
 
 abbrev pub sought : View → ℕ → Target → Entry → Sought
 sought L c s m = record { name = L .text (m .name); candidate = c; from = s }
@@ -25,7 +21,3 @@ unfoldable pub settled : View → View → Target → Entry → ℕ → ℕ → 
 settled L T s m i k =
     decided (fieldsCompatible L T (m .typ) (entryAt (T .typ i) k .typ))
     (grown (memberBits (T .typ i) (entryAt (T .typ i) k)) (Found (atMember s i k (entryAt (T .typ i) k .typ))))
-
--- Whether the index k is within the array j that the accessor `last` led to
-unfoldable pub inBounds : (ℕ → Ty) → ℕ → Accessor → ℕ → Bool
-inBounds typ j last k = not (not (targetOpen (typ j) (typ (last .typ)) (last .index)) && leb (typ j .extra) k)

@@ -1,6 +1,6 @@
 -- `search::search_member` meets its contract.
 -- Assumes nothing.
-use Prim.Native.Nat.{_-_, ℕ, _<_}
+use Prim.Native.Nat.{ℕ, _-_, _<_}
 use mathlib.Core.Path.{sym, _∙_}
 use mathlib.Core.Logic.{⊎-elim}
 use native.Mathlib.Omega.{arith}
@@ -9,6 +9,7 @@ use borrow.Author.Needs.{needs}
 use borrow.Fn.Kinds.{In}
 use borrow.Fn.PlainCycle.{Measures, is, falls, and}
 use Rattle.view.specs.View.{tabView}
+use Rattle.access.proofs.walk.member_bits.Reads as member-bits-reads
 use Rattle.types.proofs.is_composite.Reads as is-composite-reads
 use Rattle.types.proofs.resolve_type.Reads as resolve-type-reads
 use Rattle.types.proofs.same_text.Reads as same-text-reads
@@ -20,7 +21,6 @@ use Rattle.search.proofs.Searching.{Searching, search-endless, search-n
 use Rattle.search.proofs.search_member.Reads as search-member
 use Rattle.search.proofs.search_member.Kinds as search-member-kinds
 use Rattle.search.proofs.+search_member.Lts-search_member as search-member-lts
-use Rattle.search.proofs.bits_of_member.Reads as bits-of-member-reads
 use Rattle.search.proofs.grow.Reads as grow-reads
 use Rattle.search.proofs.settle.Reads as settle-reads
 use Rattle.search.proofs.+search_member.{statement}
@@ -42,7 +42,7 @@ search-member-below t =
     search-member.Pre
 
 abbrev cl-search-member : ℕ → search-member-lts.Claims
-cl-search-member t = (resolve-type-reads.Asked, resolve-type-reads.Learnt, kind-of-reads.Asked, kind-of-reads.Learnt, is-composite-reads.Asked, is-composite-reads.Learnt, text-of-reads.Asked, text-of-reads.Learnt, count-of-reads.Asked, count-of-reads.Learnt, entry-of-reads.Asked, entry-of-reads.Learnt, search-member-below t, search-member.Post, bits-of-member-reads.Asked, bits-of-member-reads.Learnt, grow-reads.Asked, grow-reads.Learnt, same-text-reads.Asked, same-text-reads.Learnt, settle-reads.Asked, settle-reads.Learnt)
+cl-search-member t = (resolve-type-reads.Asked, resolve-type-reads.Learnt, kind-of-reads.Asked, kind-of-reads.Learnt, is-composite-reads.Asked, is-composite-reads.Learnt, text-of-reads.Asked, text-of-reads.Learnt, count-of-reads.Asked, count-of-reads.Learnt, entry-of-reads.Asked, entry-of-reads.Learnt, search-member-below t, search-member.Post, member-bits-reads.Asked, member-bits-reads.Learnt, grow-reads.Asked, grow-reads.Learnt, same-text-reads.Asked, same-text-reads.Learnt, settle-reads.Asked, settle-reads.Learnt)
 
 abbrev search-member-Inv-loop : search-member-lts.InvT-loop
 search-member-Inv-loop local ltable lbtf target ttable tbtf candidate from member id levels i name k₀ k-end k =
@@ -73,7 +73,7 @@ search-member-grow-requires : (t : ℕ) → search-member-lts.Need-grow-requires
 search-member-grow-requires t c κs = omega (arith, searched-parts _ _ _ _ (c .before .before .before .before .before .before .before .before .before .before .before .before .before .before .before .before .before .before .before .before .before .before .before .args .member) _ _ (c .before .search-member .ensures), (c .before .before .before .before .before .before .before .before .before .before .before .before .before .before .before .before .before .before .before .before .before .before .before .pre .1), (c .before .before .if4 .left))
 
 search-member-returns-5 : (t : ℕ) → search-member-lts.Need-returns-5 (cl-search-member t) (search-member-at t) search-member.Post search-member-Inv-loop search-member-μ-loop
-search-member-returns-5 t c = searching-back (c .before .before .before .before .before .before .before .before .before .before .before .loop .inv) (c .before .before .before .before .before .before .before .before .before .before .loop-test .taken) (c .before .before .before .before .before .before .before .before .if2 .left) (c .before .before .before .before .before .before .before .entry-of .ensures) (c .before .before .before .before .before .before .text-of2 .ensures) (c .before .before .before .before .before .if3 .taken) (c .before .before .before .before .if4 .left) (c .before .before .before .search-member .ensures) (c .before .before .bits-of-member .ensures) (c .before .grow .ensures) (c .match2 .keys2)
+search-member-returns-5 t c = searching-back (c .before .before .before .before .before .before .before .before .before .before .before .loop .inv) (c .before .before .before .before .before .before .before .before .before .before .loop-test .taken) (c .before .before .before .before .before .before .before .before .if2 .left) (c .before .before .before .before .before .before .before .entry-of .ensures) (c .before .before .before .before .before .before .text-of2 .ensures) (c .before .before .before .before .before .if3 .taken) (c .before .before .before .before .if4 .left) (c .before .before .before .search-member .ensures) (c .before .before .member-bits .ensures) (c .before .grow .ensures) (c .match2 .keys2)
 
 search-member-settle-requires : (t : ℕ) → search-member-lts.Need-settle-requires (cl-search-member t) (search-member-at t) search-member.Post search-member-Inv-loop search-member-μ-loop
 search-member-settle-requires t c κs = omega (arith, (c .before .before .before .before .before .before .before .before .before .before .before .before .before .before .before .before .before .before .before .before .before .before .pre .1))

@@ -8,7 +8,7 @@ use Rattle.search.proofs.settle.Tie as tie
 
 returns : tie.Need-returns
 unfolding settled
-returns c = sym (simp (← (c .before .before .before .before .entry-of .ensures), ← (c .before .before .before .fields-are-compatible .ensures), ← (c .before .before .bits-of-member .ensures), ← (c .before .grow .ensures), ← (c .decide .ensures)))
+returns c = sym (simp (← (c .before .before .before .before .entry-of .ensures), ← (c .before .before .before .fields-are-compatible .ensures), ← (c .before .before .member-bits .ensures), ← (c .before .grow .ensures), ← (c .decide .ensures)))
 
 pub settle-spec : {M : Type 1} → statement M
 settle-spec =

@@ -3,8 +3,8 @@
 use mathlib.Core.Path.{sym}
 use borrow.Author.Needs.{needs}
 use Rattle.rules.specs.Matching.{targetStep, targetMember}
-use Rattle.search.proofs.target_step.Statement.{statement}
-use Rattle.search.proofs.target_step.Tie as tie
+use Rattle.follow.proofs.target_step.Statement.{statement}
+use Rattle.follow.proofs.target_step.Tie as tie
 
 returns : tie.Need-returns
 unfolding targetStep targetMember

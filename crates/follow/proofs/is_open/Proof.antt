@@ -4,9 +4,9 @@ use mathlib.Core.Path.{sym}
 use borrow.Author.Tests.{eq-eqb, ne-eqb, le-ltb}
 use borrow.Author.Needs.{needs}
 use Rattle.rules.specs.Matching.{targetOpen}
-use Rattle.search.proofs.Laws.{last-yes, last-no}
-use Rattle.search.proofs.is_open.Statement.{statement}
-use Rattle.search.proofs.is_open.Tie as tie
+use Rattle.follow.proofs.Laws.{last-yes, last-no}
+use Rattle.follow.proofs.is_open.Statement.{statement}
+use Rattle.follow.proofs.is_open.Tie as tie
 
 returns : tie.Need-returns
 unfolding targetOpen

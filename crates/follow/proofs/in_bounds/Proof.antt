@@ -2,9 +2,9 @@
 -- Assumes nothing.
 use mathlib.Core.Path.{_∙_}
 use borrow.Author.Needs.{needs}
-use Rattle.search.proofs.Laws.{bounds-within, bounds-past}
-use Rattle.search.proofs.in_bounds.Statement.{statement}
-use Rattle.search.proofs.in_bounds.Tie as tie
+use Rattle.follow.proofs.Laws.{bounds-within, bounds-past}
+use Rattle.follow.proofs.in_bounds.Statement.{statement}
+use Rattle.follow.proofs.in_bounds.Tie as tie
 
 returns : tie.Need-returns
 returns c = bounds-within _ _ _ _ (c .before .extra-of .ensures) (c .if1 .taken)

@@ -4,9 +4,9 @@ use mathlib.Core.Path.{sym, _∙_}
 use borrow.Author.Tests.{ne-eqb, not-true, not-false}
 use borrow.Author.Needs.{needs}
 use Rattle.rules.specs.Matching.{targetElement}
-use Rattle.search.proofs.Laws.{element-out, element-at}
-use Rattle.search.proofs.target_element.Statement.{statement}
-use Rattle.search.proofs.target_element.Tie as tie
+use Rattle.follow.proofs.Laws.{element-out, element-at}
+use Rattle.follow.proofs.target_element.Statement.{statement}
+use Rattle.follow.proofs.target_element.Tie as tie
 
 returns : tie.Need-returns
 returns c = sym (rw (← (c .before .before .resolve-type .ensures), (c .enum-told .given .1)))

@@ -1,0 +1,190 @@
+// The local path followed in the target: to a member by its name, to an element by its index.
+//   local:  struct a { int n; struct { int z[4]; } s; };          the accessors of "0:1:0:2" are [0], .s, .z, [2]
+//   target: struct a { struct { long w; int z[8]; } s; };
+// From the target's a: [0] is at bit 0, .s at bit 0, .z at bit 64, [2] at bit 128.
+use access::walk::Placed;
+use access::walk::placed_element;
+use btf::Btf;
+use rules::Accessor;
+use rules::BTF_KIND_ARRAY;
+use rules::BTF_KIND_STRUCT;
+use rules::MAX_LEVELS;
+use rules::MAX_SPEC_LEN;
+use rules::Refusal;
+use rules::Resolved;
+use rules::Search;
+use rules::Target;
+use search::search_member;
+use types::resolve_type;
+use value::member_of;
+use view::count_of;
+use view::extra_of;
+use view::kind_of;
+use view::ref_of;
+ghost use mathlib.Core.Path.{_≡_};
+ghost use Prim.Native.Nat.{_+_, _<_};
+ghost use Rattle.view.specs.View.{tabView};
+ghost use Rattle.rules.specs.Types.{resolve};
+ghost use Rattle.rules.specs.Matching.{reached, atElement, targetOpen, targetElementAt, targetStep};
+ghost use Rattle.follow.specs.Bounds.{inBounds};
+ghost use Rattle.follow.specs.Walk.{stepAt};
+
+// The element `index` of type id, from a place of a candidate's walk.
+fn at_element(
+    target: &[u8],
+    ttable: &[u32],
+    tbtf: Btf,
+    candidate: u32,
+    from: Target,
+    index: u64,
+    id: u32,
+) -> Search
+    requires { ⌜ from .parts + 1 < 4294967296 ⌝ }
+    ensures { λ r. ⌜ r ≡ reached (atElement (tabView (now (target .entry)) (now (ttable .entry)) tbtf .typ) candidate from index id) ⌝ }
+{
+    if from.parts == MAX_SPEC_LEN {
+        return Search::Failed(Refusal::MaximumNesting(candidate));
+    }
+    let placed = placed_element(target, ttable, tbtf, id, from.bits, index);
+    let bits = match placed {
+        Placed::At(b) => b,
+        Placed::Refused(r) => {
+            return Search::Failed(r);
+        }
+    };
+    let last = Accessor {
+        typ: id,
+        index: index,
+        named: false,
+    };
+    Search::Found(Target {
+        typ: id,
+        last: last,
+        bits: bits,
+        parts: from.parts + 1,
+    })
+}
+
+// Whether an array of 0 elements is its struct's last member, so that any index is within it.
+fn is_open(bytes: &[u8], table: &[u32], btf: Btf, array: u32, last: Accessor) -> bool
+    ensures { λ r. ⌜ r ≡ targetOpen (tabView (now (bytes .entry)) (now (table .entry)) btf .typ array) (tabView (now (bytes .entry)) (now (table .entry)) btf .typ (last .typ)) (last .index) ⌝ }
+{
+    if extra_of(bytes, table, btf, array) != 0 {
+        return false;
+    }
+    if kind_of(bytes, table, btf, last.typ) != BTF_KIND_STRUCT {
+        return false;
+    }
+    let n = count_of(bytes, table, btf, last.typ) as u64;
+    n > 0 && last.index == n - 1
+}
+
+// Whether an index is within the array that the accessor `last` led to.
+fn in_bounds(bytes: &[u8], table: &[u32], btf: Btf, array: u32, last: Accessor, index: u64) -> bool
+    ensures { λ r. ⌜ r ≡ inBounds (tabView (now (bytes .entry)) (now (table .entry)) btf .typ) array last index ⌝ }
+{
+    if index < extra_of(bytes, table, btf, array) as u64 {
+        return true;
+    }
+    is_open(bytes, table, btf, array, last)
+}
+
+// The element `index` of the type come to, where that is an array that has one.
+fn target_element(
+    target: &[u8],
+    ttable: &[u32],
+    tbtf: Btf,
+    candidate: u32,
+    from: Target,
+    index: u64,
+) -> Search
+    requires { ⌜ from .parts + 1 < 4294967296 ⌝ }
+    ensures { λ r. ⌜ r ≡ targetElementAt (tabView (now (target .entry)) (now (ttable .entry)) tbtf .typ) candidate from index (resolve (tabView (now (target .entry)) (now (ttable .entry)) tbtf .typ) (from .typ)) ⌝ }
+{
+    let r = resolve_type(target, ttable, tbtf, from.typ);
+    let Resolved::At(array) = r else {
+        return Search::Failed(Refusal::Unresolved);
+    };
+    if kind_of(target, ttable, tbtf, array) != BTF_KIND_ARRAY {
+        return Search::Missing;
+    }
+    let last = from.last;
+    if !in_bounds(target, ttable, tbtf, array, last, index) {
+        return Search::Missing;
+    }
+    let element = resolve_type(target, ttable, tbtf, ref_of(target, ttable, tbtf, array));
+    let Resolved::At(id) = element else {
+        return Search::Failed(Refusal::Unresolved);
+    };
+    at_element(target, ttable, tbtf, candidate, from, index, id)
+}
+
+// One accessor of the local path, followed in the target from a place of a candidate's walk.
+fn target_step(
+    local: &[u8],
+    ltable: &[u32],
+    lbtf: Btf,
+    target: &[u8],
+    ttable: &[u32],
+    tbtf: Btf,
+    candidate: u32,
+    from: Target,
+    accessor: Accessor,
+) -> Search
+    requires { ⌜ from .parts + 34 < 4294967296 ⌝ }
+    ensures { λ r. ⌜ r ≡ targetStep (tabView (now (local .entry)) (now (ltable .entry)) lbtf) (tabView (now (target .entry)) (now (ttable .entry)) tbtf) candidate from accessor ⌝ }
+{
+    if accessor.named {
+        let m = member_of(local, ltable, lbtf, accessor.typ, accessor.index);
+        return search_member(
+            local,
+            ltable,
+            lbtf,
+            target,
+            ttable,
+            tbtf,
+            candidate,
+            from,
+            m,
+            from.typ,
+            MAX_LEVELS,
+        );
+    }
+    target_element(target, ttable, tbtf, candidate, from, accessor.index)
+}
+
+// The accessor k of the local path: the first is an index of the candidate itself.
+pub fn path_step(
+    local: &[u8],
+    ltable: &[u32],
+    lbtf: Btf,
+    target: &[u8],
+    ttable: &[u32],
+    tbtf: Btf,
+    candidate: u32,
+    from: Target,
+    accessor: Accessor,
+    k: usize,
+) -> Search
+    requires { ⌜ from .parts + 34 < 4294967296 ⌝ }
+    ensures { λ r. ⌜ r ≡ stepAt (tabView (now (local .entry)) (now (ltable .entry)) lbtf) (tabView (now (target .entry)) (now (ttable .entry)) tbtf) candidate k from accessor ⌝ }
+{
+    if k != 0 {
+        return target_step(
+            local,
+            ltable,
+            lbtf,
+            target,
+            ttable,
+            tbtf,
+            candidate,
+            from,
+            accessor,
+        );
+    }
+    let r = resolve_type(target, ttable, tbtf, candidate);
+    let Resolved::At(id) = r else {
+        return Search::Failed(Refusal::Unresolved);
+    };
+    at_element(target, ttable, tbtf, candidate, from, accessor.index, id)
+}
