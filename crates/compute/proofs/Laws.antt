@@ -2,20 +2,36 @@
 -- Assumes nothing.
 use Prim.Native.Nat.{ℕ, _-_, _≤_, _<_}
 use mathlib.Core.Path.{_≡_, refl, sym, ap, _∙_}
-use mathlib.Core.List.{List}
+use mathlib.Core.List.{List, [], _∷_}
 use native.Mathlib.Omega.{arith}
 use lib.ListN.{length, getD, take}
 use lib.Seq.{take-all}
-use borrow.Author.Tests.{lt-ltb, le-ltb, le-leb, lt-leb}
+use borrow.Author.Tests.{eq-eqb, ne-eqb, lt-ltb, le-ltb, le-leb, lt-leb}
+use types.Run.{OneOf, miss}
+use denote.Enum.Declared.{tagOf}
+use Rattle.access.proofs.walk.Reach.{the-type}
+use Rattle.access.specs.declared.walk.Reach.{Reach}
+use Rattle.access.specs.declared.walk.Reach.the-variants as Reach
+use Rattle.access.specs.Replies.{reachOf}
+use Rattle.matching.specs.Candidates.{matchesOf}
 use Rattle.view.specs.View.{View}
 use Rattle.rules.specs.declared.Resolved.the-variants.{At, Endless}
 use Rattle.rules.specs.declared.Accessor.{Accessor}
 use Rattle.rules.specs.declared.Record.{Record}
+use Rattle.rules.specs.declared.Refusal.{Refusal}
+use Rattle.rules.specs.declared.Value.{Value}
+use Rattle.rules.specs.declared.Worth.{Worth}
+use Rattle.rules.specs.declared.Matches.{Matches}
+use Rattle.rules.specs.declared.Write.{Write}
+use Rattle.rules.specs.declared.Write.the-variants.{Put}
+use Rattle.rules.specs.declared.Resize.the-variants.{Same}
+use Rattle.rules.specs.Kinds.{typeIdLocal}
+use Rattle.rules.specs.Value.{localValue}
 use Rattle.rules.specs.declared.Refusal.the-variants.{Unresolved}
 use Rattle.rules.specs.Refusal.{Reply, ok, refused, bind}
 use Rattle.rules.specs.Types.{resolve}
-use Rattle.rules.specs.Access.{last, Access, parse, localAccess}
-use Rattle.rules.specs.Record.{accessAt, accessed}
+use Rattle.rules.specs.Access.{last, Access, whole, variant, path, parse, localAccess}
+use Rattle.rules.specs.Record.{accessAt, accessed, matches, conclude, computed, compute, relocated}
 use Rattle.access.proofs.Walking.{last-is}
 use Rattle.compute.specs.Replies.{endlessAfter}
 
@@ -50,3 +66,44 @@ module _ (L : View) (r : Record) where
 pub last-over : (d : Accessor) (l : List Accessor) (n : ℕ) → length l ≡ 64 → 64 < n → getD l 63 d ≡ last (take n l)
 last-over d l n e h =
     last-is d l 64 (omega arith) (omega arith) ∙ ap last (take-all 64 l (omega arith) ∙ sym (take-all n l (omega arith)))
+
+-- a record's access that is refused, and one that is not
+module _ (L T : View) (r : Record) where
+  pub write-refused : {x : Reply Access} → x ≡ accessed L r → (q : Refusal) → x ≡ refused q → refused q ≡ relocated L T r
+  unfolding relocated
+  write-refused e q f = sym (rw (← e, f))
+
+  own-id : {x : Reply Access} (a : Access) → x ≡ ok a → x ≡ accessed L r → r .kind ≡ typeIdLocal → ok (Put (r .typ) Same) ≡ relocated L T r
+  unfolding relocated compute
+  own-id a f e k = sym (rw (← e, f, eq-eqb (r .kind) typeIdLocal k))
+
+  by-matches : {x : Reply Access} (a : Access) → x ≡ ok a → x ≡ accessed L r → (r .kind ≡ typeIdLocal → ⊥)
+      → {m : Reply Value} → m ≡ bind x (localValue (L .typ) (r .kind)) → {k : Matches} → k ≡ matchesOf L T r x m
+      → {w : Reply Worth} → w ≡ conclude (r .kind) k → {o : Reply Write} → o ≡ computed (L .typ) (T .typ) m w → o ≡ relocated L T r
+  unfolding relocated compute
+  by-matches {x} a f e n {m} g {k} h {w} i j =
+      let g′ : m ≡ localValue (L .typ) (r .kind) a = g ∙ rw f in
+      let h′ : k ≡ matches L T r a m = h ∙ rw f in
+      sym (rw (← e, f, ne-eqb (r .kind) typeIdLocal n, ← g′, ← h′, ← i, ← j))
+
+  module _ (reach : Reach) (steps : List Accessor) (keys : OneOf (0 ∷ 1 ∷ 2 ∷ []) (tagOf the-type reach)) (e : reachOf reach steps ≡ accessed L r) where
+    pub write-own : r .kind ≡ typeIdLocal → ok (Put (r .typ) Same) ≡ relocated L T r
+    write-own k = go reach keys e
+      where
+        go : (y : Reach) → OneOf (0 ∷ 1 ∷ 2 ∷ []) (tagOf the-type y) → reachOf y steps ≡ accessed L r → ok (Put (r .typ) Same) ≡ relocated L T r
+        go Reach.Whole h d = own-id whole refl d k
+        go (Reach.Variant i n) h d = own-id (variant i n) refl d k
+        go (Reach.Path n b) h d = own-id (path (take n steps) b) refl d k
+        go (Reach.Refused q) h d = absurd (miss (0 ∷ 1 ∷ 2 ∷ []) 3 tt h)
+
+    pub write-matched : (r .kind ≡ typeIdLocal → ⊥) → {m : Reply Value} → m ≡ bind (reachOf reach steps) (localValue (L .typ) (r .kind))
+        → {k : Matches} → k ≡ matchesOf L T r (reachOf reach steps) m → {w : Reply Worth} → w ≡ conclude (r .kind) k
+        → {o : Reply Write} → o ≡ computed (L .typ) (T .typ) m w → o ≡ relocated L T r
+    write-matched n {m} g {k} h {w} i {o} j = go reach keys e g h
+      where
+        go : (y : Reach) → OneOf (0 ∷ 1 ∷ 2 ∷ []) (tagOf the-type y) → reachOf y steps ≡ accessed L r
+            → m ≡ bind (reachOf y steps) (localValue (L .typ) (r .kind)) → k ≡ matchesOf L T r (reachOf y steps) m → o ≡ relocated L T r
+        go Reach.Whole t d a b = by-matches whole refl d n a b i j
+        go (Reach.Variant x z) t d a b = by-matches (variant x z) refl d n a b i j
+        go (Reach.Path x z) t d a b = by-matches (path (take x steps) z) refl d n a b i j
+        go (Reach.Refused q) t d a b = absurd (miss (0 ∷ 1 ∷ 2 ∷ []) 3 tt t)

@@ -7,6 +7,7 @@ use access::walk::Reach;
 use access::walk::local_access;
 use access::walk::refuse;
 use btf::Btf;
+use matching::match_candidates;
 use rules::Accessor;
 use rules::Matches;
 use rules::Record;
@@ -38,6 +39,7 @@ ghost use Rattle.rules.specs.Access.{last};
 ghost use Rattle.rules.specs.Value.{plain, localValue};
 ghost use Rattle.access.specs.Replies.{partsOf, accessOf};
 ghost use Rattle.value.specs.Replies.{replyOf};
+ghost use Rattle.rules.specs.Record as rule;
 ghost use Rattle.rules.specs.Call.{recordAt};
 ghost use Rattle.compute.specs.Replies.{worthOf, writeOf, endlessAfter};
 
@@ -161,6 +163,8 @@ fn write_for(
 }
 
 const FIELD_EXISTS: u32 = 2;
+
+const TYPE_ID_LOCAL: u32 = 6;
 
 const TYPE_ID_TARGET: u32 = 7;
 
@@ -309,4 +313,40 @@ fn write_computed(
             }
         }
     }
+}
+
+// What a record writes, before any instruction is looked at. `TypeIdLocal` writes its own type id and looks at no target.
+pub fn record_write(
+    local: &[u8],
+    ltable: &[u32],
+    lbtf: Btf,
+    target: &[u8],
+    ttable: &[u32],
+    tbtf: Btf,
+    relo: Record,
+) -> Relocated
+    ensures { λ r. ⌜ writeOf r ≡ rule.relocated (tabView (now (local .entry)) (now (ltable .entry)) lbtf) (tabView (now (target .entry)) (now (ttable .entry)) tbtf) relo ⌝ }
+{
+    let access = record_access(local, ltable, lbtf, relo);
+    let reach = access.reach;
+    if let Reach::Refused(why) = reach {
+        return Relocated::Refused(why);
+    }
+    if relo.kind == TYPE_ID_LOCAL {
+        return Relocated::Writes(Write::Put(relo.typ as u64, Resize::Same));
+    }
+    let mine = own_value(local, ltable, lbtf, relo.kind, access);
+    let kept = match_candidates(
+        local,
+        ltable,
+        lbtf,
+        target,
+        ttable,
+        tbtf,
+        relo,
+        access,
+        mine,
+    );
+    let theirs = conclude_from(relo.kind, kept);
+    write_computed(local, ltable, lbtf, target, ttable, tbtf, mine, theirs)
 }

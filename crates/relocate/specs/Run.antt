@@ -1,21 +1,28 @@
 -- A list of records as a loop goes through it: from record number k on, with so many left.
-use Prim.Native.Nat.{ℕ, zero, suc, _+_, _-_, _/_, _≤_, _<_}
+use Prim.Native.Nat.{ℕ, zero, suc, _+_, _*_, _-_, _/_, _^_, _≤_, _<_}
 use mathlib.Core.Path.{_≡_, refl, sym, ap, _∙_}
 use mathlib.Core.List.{List, [], _∷_}
 use native.Mathlib.Omega.{arith}
 use native.Mathlib.Nat.{not-suc-le-zero}
 use native.Mathlib.Numerals.{sub-one}
 use lib.ListN.{length}
-use Rattle.view.specs.View.{View}
+use Rattle.view.specs.View.{View, docView, tabView}
 use Rattle.rules.specs.declared.Refusal.{Refusal}
 use Rattle.rules.specs.declared.Record.{Record}
 use Rattle.rules.specs.declared.Answer.{Answer}
 use Rattle.rules.specs.declared.Answer.the-variants.{Applied, Poisoned, Refused}
-use Rattle.rules.specs.declared.Ending.the-variants.{Done, Stopped}
+use Rattle.rules.specs.declared.Ending.{Ending}
+use Rattle.rules.specs.declared.Ending.the-variants.{Done, BadBtf, OverLimit, TableShort, Stopped, Misshapen}
+use Rattle.rules.specs.declared.Which.{Which}
+use Rattle.rules.specs.declared.Which.the-variants.{Local, Target}
+use Rattle.btf.specs.declared.Btf.{Btf}
+use Rattle.btf.specs.declared.Answer.{Answer as Reading}
+use Rattle.btf.specs.declared.Answer.the-variants.{Read, Bad, Over, TooShort}
+use Rattle.btf.specs.Table.{decode, tabled}
 use Rattle.rules.specs.declared.Said.{Said}
 use Rattle.rules.specs.Record.{Outcome, recordOf}
 use Rattle.rules.specs.List.{Run, follow, listOf}
-use Rattle.rules.specs.Call.{recordAt, recordsFrom, ended, endOf, Effect, runOf}
+use Rattle.rules.specs.Call.{recordAt, recordsFrom, ended, endOf, Effect, runOf, readThen}
 
 -- What an answer and the instructions it leaves make
 abbrev pub outcomeOf : Answer → List ℕ → Outcome
@@ -24,6 +31,17 @@ outcomeOf a xs = record { answer = a; insns = xs }
 -- What is said and the instructions left make
 abbrev pub effectOf : Said → List ℕ → Effect
 effectOf s xs = record { said = s; insns = xs }
+
+-- How a call ends where a BTF is not read
+abbrev pub unreadOf : Which → Reading → Ending
+unreadOf w (Read b) = Done
+unreadOf w (Bad i) = BadBtf w i
+unreadOf w Over = OverLimit w
+unreadOf w (TooShort n) = TableShort w n
+
+-- The target read, and the records applied
+unfoldable pub onTarget : View → List ℕ → ℕ → List ℕ → ℕ → List ℕ → Effect
+onTarget L t troom xs section rs = readThen Target xs (decode t troom) (λ tb. runOf L (docView t tb) section xs rs)
 
 -- What the answers of a run say from record number k on, and the instructions left
 abbrev effect : ℕ → Run → Effect
@@ -73,3 +91,44 @@ module _ (L T : View) (section : ℕ) (rs : List ℕ) where
     run-applied (Applied v) other f = ap (λ (n : ℕ). runFrom L T section rs k n xs) one ∙ applies k (m - (k + 1)) xs ys v f
     run-applied Poisoned other f = ap (λ (n : ℕ). runFrom L T section rs k n xs) one ∙ poisons k (m - (k + 1)) xs ys f
     run-applied (Refused q) other f = absurd (other q refl)
+
+-- The loop: k of n records are passed, the instructions are xs, and what is left to do from here is what was to do from xs₀
+pub record Going (L T : View) (section : ℕ) (rs xs₀ : List ℕ) (n k : ℕ) (xs : List ℕ) : Type 0 where
+  pub few : k ≤ n
+  pub all : n ≡ length rs / 16
+  pub small : n < 2 ^ 63
+  pub long : length xs ≡ length xs₀
+  pub rest : runFrom L T section rs k (n - k) xs ≡ runOf L T section xs₀ rs
+
+module _ (L T : View) (section : ℕ) (rs xs₀ : List ℕ) where
+  pub going-first : (n : ℕ) → n ≡ length rs / 16 → n < 2 ^ 63 → Going L T section rs xs₀ n 0 xs₀
+  going-first n e s =
+      let z : n - 0 ≡ length rs / 16 = omega (arith, e) in
+      record { few = omega arith; all = e; small = s; long = refl; rest = ap (λ (m : ℕ). runFrom L T section rs 0 m xs₀) z ∙ run-whole L T section rs xs₀ }
+
+module _ {L T : View} {section : ℕ} {rs xs₀ : List ℕ} {n k : ℕ} {xs : List ℕ} (g : Going L T section rs xs₀ n k xs) where
+  -- a record lies in the bytes
+  pub going-fits : k < n → 16 * k + 16 ≤ length rs
+  going-fits h = omega (arith, g .all, h)
+
+  pub going-end : n ≤ k → record { said = ended Done n; insns = xs } ≡ runOf L T section xs₀ rs
+  going-end h =
+      let e : n ≡ k = omega (arith, g .few, h) in
+      let z : n - k ≡ 0 = omega (arith, h) in
+      sym (ap (λ (m : ℕ). runFrom L T section rs k m xs) z ∙ run-end L T section rs k xs ∙ rw e) ∙ g .rest
+
+  module _ (h : k < n) {r : Record} (e : r ≡ recordAt rs k) {a : Answer} {ys : List ℕ} (f : outcomeOf a ys ≡ recordOf L T section xs r) where
+    told : outcomeOf a ys ≡ recordOf L T section xs (recordAt rs k)
+    told = f ∙ ap (recordOf L T section xs) e
+
+    pub going-refused : (q : Refusal) → a ≡ Refused q → record { said = ended (Stopped k q) k; insns = ys } ≡ runOf L T section xs₀ rs
+    going-refused q i = sym (run-refused L T section rs k n xs ys h q i told) ∙ g .rest
+
+    pub going-next : ((q : Refusal) → a ≡ Refused q → ⊥) → length ys ≡ length xs → Going L T section rs xs₀ n (k + 1) ys
+    going-next i l = record {
+      few = omega (arith, h);
+      all = g .all;
+      small = g .small;
+      long = l ∙ g .long;
+      rest = sym (run-applied L T section rs k n xs ys h a i told) ∙ g .rest;
+    }

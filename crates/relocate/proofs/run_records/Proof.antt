@@ -1,0 +1,60 @@
+use Prim.Native.Nat.{_-_}
+use mathlib.Core.Path.{refl, _∙_}
+use native.Mathlib.Omega.{arith}
+use borrow.Author.Needs.{needs}
+use Rattle.view.specs.View.{tabView}
+use Rattle.relocate.specs.Run.{Going, going-first, going-fits, going-end, going-refused, going-next}
+use Rattle.relocate.proofs.Laws.{not-refused}
+use Rattle.relocate.proofs.run_records.Statement.{statement}
+use Rattle.relocate.proofs.run_records.Tie as tie
+
+abbrev Inv-loop : tie.InvT-loop
+Inv-loop local ltable lbtf target ttable tbtf insns₀ section records n k₀ insns k = Going (tabView local ltable lbtf) (tabView target ttable tbtf) section records insns₀ n k insns
+
+abbrev μ-loop : tie.MeasureT-loop
+μ-loop local ltable lbtf target ttable tbtf insns₀ section records n k₀ insns k = n - k
+
+loop-holds : tie.Need-loop-holds Inv-loop μ-loop
+loop-holds c = going-first _ _ _ _ _ _ refl (omega arith)
+
+record-at-requires : tie.Need-record-at-requires Inv-loop μ-loop
+record-at-requires c κs = going-fits (c .before .before .loop .inv) (c .before .loop-test .taken)
+
+same-length : tie.Need-same-length Inv-loop μ-loop
+same-length c = omega (arith, c .before .before .before .before .before .apply-record .kept .1 .1 .1 .1 .1 .1 .0, c .before .before .before .before .before .before .before .before .before .loop .inv .long)
+
+returns : tie.Need-returns Inv-loop μ-loop
+returns c = going-refused (c .before .before .before .before .before .before .before .before .before .loop .inv) (c .before .before .before .before .before .before .before .before .loop-test .taken) (c .before .before .before .before .before .before .record-at .ensures) (c .before .before .before .before .before .apply-record .ensures) _ (c .before .a .given .1)
+
+add-k : tie.Need-add-k Inv-loop μ-loop
+add-k c = omega (arith, c .before .before .before .before .before .before .before .loop .inv .small, c .before .before .before .before .before .before .loop-test .taken)
+
+loop-less : tie.Need-loop-less Inv-loop μ-loop
+loop-less c = omega arith
+
+loop-again : tie.Need-loop-again Inv-loop μ-loop
+loop-again c = going-next (c .before .before .before .before .before .before .before .loop .inv) (c .before .before .before .before .before .before .loop-test .taken) (c .before .before .before .before .record-at .ensures) (c .before .before .before .apply-record .ensures) (not-refused _ (c .match .keys2)) (omega (arith, c .before .before .before .apply-record .kept .1 .1 .1 .1 .1 .1 .0))
+
+same-length-2 : tie.Need-same-length-2 Inv-loop μ-loop
+same-length-2 c = c .before .loop .inv .long
+
+returns-2 : tie.Need-returns-2 Inv-loop μ-loop
+returns-2 c = going-end (c .before .loop .inv) (c .loop-test .left)
+
+pub run-records-spec : {M : Type 1} → statement M
+run-records-spec =
+    tie.close
+    (tie.spec
+    Inv-loop
+    μ-loop
+    loop-holds
+    record-at-requires
+    (λ c κs. search needs)
+    (λ c. search needs)
+    same-length
+    returns
+    add-k
+    loop-less
+    loop-again
+    same-length-2
+    returns-2)
