@@ -14,12 +14,13 @@ use Rattle.rules.specs.declared.Answer.the-variants.{Applied, Poisoned, 
 use Rattle.rules.specs.declared.Refusal.{Refusal}
 use Rattle.rules.specs.declared.Write.{Write}
 use Rattle.rules.specs.declared.Ending.{Ending}
+use Rattle.rules.specs.declared.Ending.the-variants.{Misshapen}
 use Rattle.rules.specs.Refusal.{Reply, ok, refused}
 use Rattle.rules.specs.Kinds.{enumValue}
 use Rattle.rules.specs.Apply.{Patch, done, stopped, patch}
 use Rattle.rules.specs.Record.{outcome, refuse, apply, inFunction, indexOf, recordOf, relocated}
 use Rattle.rules.specs.List.{follow, listOf, appliedOf}
-use Rattle.rules.specs.Call.{endOf, ended}
+use Rattle.rules.specs.Call.{recordsIn, endOf, ended, unrun, runOf, shaped, relocateRead}
 use Rattle.rules.specs.Report.{answered, lastOf, again, reportFrom, report, reportSaid}
 
 -- An answer that is no refusal
@@ -90,3 +91,13 @@ module _ (L T : View) (section : ℕ) where
   unfolding reportSaid reportFrom again
   unrun-nothing [] e h = refl
   unrun-nothing (r ∷ rs) e h = ap (reportFrom section 0 (r ∷ rs)) h
+
+  -- The report of what a call on read BTFs said: its run's, or nothing where the bytes have a wrong shape
+  pub said-read : (xs rs : List ℕ) →
+      reportSaid L T section (recordsIn rs) (relocateRead L T xs section rs .said) ≡ cond (shaped xs section rs) (report L T section xs (recordsIn rs)) []
+  unfolding relocateRead runOf
+  said-read xs rs = go (shaped xs section rs)
+    where
+      go : (t : Bool) → reportSaid L T section (recordsIn rs) (cond t (runOf L T section xs rs) (unrun Misshapen xs) .said) ≡ cond t (report L T section xs (recordsIn rs)) []
+      go true = said-run (recordsIn rs) xs
+      go false = unrun-nothing (recordsIn rs) Misshapen refl
