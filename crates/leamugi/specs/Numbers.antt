@@ -1,13 +1,23 @@
 -- What the exported calls say back, as numbers (document 01, section 3): the answer's own, and five beside it.
 use Prim.Native.Nat.{ℕ, zero, suc, _%_, _^_}
 use mathlib.Core.List.{List, [], _∷_}
-use mathlib.Core.Path.{_≡_}
+use mathlib.Core.Path.{_≡_, ap, _∙_}
 use lib.ListN.{length, getD, set}
 use lib.Seq.{sets}
 use Rattle.btf.specs.declared.Btf.{Btf}
 use Rattle.btf.specs.declared.Answer.{Answer}
 use Rattle.btf.specs.declared.Answer.the-variants.{Read, Bad, Over, TooShort}
 use Rattle.view.specs.View.{View}
+use Rattle.rules.specs.declared.Refusal.{Refusal}
+use Rattle.rules.specs.declared.Ending.{Ending}
+use Rattle.rules.specs.declared.Ending.the-variants.{Done, BadBtf, OverLimit, TableShort, Stopped, Misshapen}
+use Rattle.rules.specs.declared.Said.{Said}
+use Rattle.rules.specs.Refusal.{number, returned}
+use Rattle.rules.specs.Call.{named, Effect, recordsIn, relocateRead}
+use Rattle.rules.specs.Report.{reportSaid}
+use Rattle.relocate.specs.Run.{effectOf}
+use Rattle.reporting.specs.declared.Reported.{Reported}
+use Rattle.reporting.specs.declared.Reported.the-variants.{Written, Needed}
 use Rattle.view.specs.Places.{noEntry}
 use Rattle.leamugi.specs.declared.Numbers.{Numbers}
 
@@ -44,7 +54,41 @@ unfoldable pub entryNumbers : View → ℕ → ℕ → Numbers
 entryNumbers T i k =
     let e = getD (T .typ i .entries) k noEntry in said (e .typ) (e .name) (length (T .text (e .name))) (e .low) (e .high) 0
 
+-- A refusal of record k after n were applied: its number; n, and what document 01 returns beside the number
+unfoldable pub refusalNumbers : ℕ → ℕ → Refusal → Numbers
+refusalNumbers n k r = said (number r) n (getD (returned k r) 0 0) (getD (returned k r) 1 0) 0 0
+
+-- An ending after n records: its number; n, and what document 01 returns beside the number
+unfoldable pub endingNumbers : ℕ → Ending → Numbers
+endingNumbers n Done = said 0 n 0 0 0 0
+endingNumbers n (BadBtf w i) = said 1 n (named w) i 0 0
+endingNumbers n (OverLimit w) = said 2 n (named w) 0 0 0
+endingNumbers n (TableShort w m) = said 3 n (named w) m 0 0
+endingNumbers n (Stopped k r) = refusalNumbers n k r
+endingNumbers n Misshapen = said 18 n 0 0 0 0
+
+-- What a call said
+abbrev pub saidNumbers : Said → Numbers
+saidNumbers s = endingNumbers (s .applied) (s .ending)
+
+-- How many bytes a report takes, written or not
+abbrev pub lengthOf : Reported → ℕ
+lengthOf (Written n) = n
+lengthOf (Needed n) = n
+
+-- The report's length in the fourth place
+abbrev pub reportedNumbers : Numbers → ℕ → Numbers
+reportedNumbers n long = said (n .number) (n .a) (n .b) (n .c) long 0
+
+-- The report of a call on BTFs that were read before
+abbrev pub reportOf : View → View → List ℕ → ℕ → List ℕ → List ℕ
+reportOf L T xs section rs = reportSaid L T section (recordsIn rs) (relocateRead L T xs section rs .said)
+
 -- Five stores, one after the other
 pub stored : (xs : List ℕ) {l m n o p : List ℕ} (v : Numbers) → l ≡ set xs 0 (v .a) → m ≡ set l 1 (v .b) → n ≡ set m 2 (v .c) → o ≡ set n 3 (v .d)
     → p ≡ set o 4 (v .e) → p ≡ sets xs 0 (five v)
 stored xs v e1 e2 e3 e4 e5 = rw (e5, e4, e3, e2, e1)
+
+-- What a call said and left, laid out
+pub laid-out : {s : Said} {ys : List ℕ} {E : Effect} → effectOf s ys ≡ E → {n : Numbers} → n ≡ saidNumbers s → (n ≡ saidNumbers (E .said)) × (ys ≡ E .insns)
+laid-out e f = (f ∙ ap (λ (x : Effect). saidNumbers (x .said)) e, ap (λ (x : Effect). x .insns) e)

@@ -4,6 +4,12 @@ use btf::Answer;
 use btf::Btf;
 use btf::Place;
 use btf::read;
+use relocate::relocate_read;
+use reporting::Reported;
+use reporting::report;
+use rules::Ending;
+use rules::Refusal;
+use rules::Which;
 use view::count_of;
 use view::entry_of;
 use view::kind_of;
@@ -18,7 +24,9 @@ ghost use Rattle.btf.specs.Table.{decode, tabled};
 ghost use Rattle.btf.specs.Sections.{stringsIn};
 ghost use Rattle.view.specs.Text.{textAt};
 ghost use Rattle.view.specs.View.{tabView};
-ghost use Rattle.leamugi.specs.Numbers.{said, five, btfOf, readNumbers, typeNumbers, entryNumbers};
+ghost use Rattle.rules.specs.Call.{named, relocateRead};
+ghost use Rattle.reporting.specs.Reported.{reported, holding};
+ghost use Rattle.leamugi.specs.Numbers.{said, five, btfOf, readNumbers, typeNumbers, entryNumbers, refusalNumbers, endingNumbers, saidNumbers, lengthOf, reportedNumbers, reportOf};
 
 // An answer's number and the five beside it.
 pub struct Numbers {
@@ -202,5 +210,162 @@ pub extern "C" fn leamugi_entry(
 {
     let n = entry_numbers(btf, table, btf_from(read), id, k);
     put_five(said, n);
+    n.number
+}
+
+// Why a record was refused, with what document 01 returns beside the number.
+fn refusal_numbers(applied: u64, at: u64, why: Refusal) -> Numbers
+    ensures { λ r. ⌜ r ≡ refusalNumbers applied at why ⌝ }
+{
+    match why {
+        Refusal::KindTooBig(kind) => said_numbers(4, applied, kind as u64, 0, 0, 0),
+        Refusal::NotInFunction => said_numbers(5, applied, at, 0, 0, 0),
+        Refusal::NoSuccessor(index) => said_numbers(6, applied, index, 0, 0, 0),
+        Refusal::BadAccess => said_numbers(7, applied, at, 0, 0, 0),
+        Refusal::IndexTooBig(index, count) => said_numbers(8, applied, index, count as u64, 0, 0),
+        Refusal::WrongKind => said_numbers(9, applied, at, 0, 0, 0),
+        Refusal::Conflict(id, count) => said_numbers(10, applied, id as u64, count, 0, 0),
+        Refusal::MaximumNesting(id) => said_numbers(11, applied, id as u64, 0, 0, 0),
+        Refusal::BadInstruction(reason) => said_numbers(12, applied, reason as u64, 0, 0, 0),
+        Refusal::NoMatch => said_numbers(13, applied, at, 0, 0, 0),
+        Refusal::Unresolved => said_numbers(14, applied, at, 0, 0, 0),
+        Refusal::TooManyParts => said_numbers(15, applied, at, 0, 0, 0),
+        Refusal::BitsTooBig => said_numbers(16, applied, at, 0, 0, 0),
+        Refusal::TooDeep => said_numbers(17, applied, at, 0, 0, 0),
+    }
+}
+
+fn which_number(which: Which) -> u64
+    ensures { λ r. ⌜ r ≡ named which ⌝ }
+{
+    match which {
+        Which::Local => 0,
+        Which::Target => 1,
+    }
+}
+
+// How a call ended.
+fn ending_numbers(applied: u64, ending: Ending) -> Numbers
+    ensures { λ r. ⌜ r ≡ endingNumbers applied ending ⌝ }
+{
+    match ending {
+        Ending::Done => said_numbers(0, applied, 0, 0, 0, 0),
+        Ending::BadBtf(which, id) => said_numbers(1, applied, which_number(which), id as u64, 0, 0),
+        Ending::OverLimit(which) => said_numbers(2, applied, which_number(which), 0, 0, 0),
+        Ending::TableShort(which, entries) => said_numbers(
+            3,
+            applied,
+            which_number(which),
+            entries as u64,
+            0,
+            0,
+        ),
+        Ending::Stopped(at, why) => refusal_numbers(applied, at, why),
+        Ending::Misshapen => said_numbers(18, applied, 0, 0, 0, 0),
+    }
+}
+
+// How many bytes a report takes.
+fn report_length(reported: Reported) -> u64
+    ensures { λ r. ⌜ r ≡ lengthOf reported ⌝ }
+{
+    match reported {
+        Reported::Written(n) => n,
+        Reported::Needed(n) => n,
+    }
+}
+
+// Applies the records to the function's instructions, in order up to the first refusal, between two BTFs that were read
+// before. Answers document 01's number and says beside it how many records were applied and what the number returns.
+#[no_mangle]
+pub extern "C" fn leamugi_relocate_read(
+    local: &[u8],
+    ltable: &[u32],
+    lread: &[u64],
+    target: &[u8],
+    ttable: &[u32],
+    tread: &[u64],
+    insns: &mut [u8],
+    section: u64,
+    records: &[u8],
+    said: &mut [u64],
+) -> u32
+    ensures number { λ r. ⌜ r ≡ saidNumbers (relocateRead (tabView (now (local .entry)) (now (ltable .entry)) (btfOf (now (lread .entry)))) (tabView (now (target .entry)) (now (ttable .entry)) (btfOf (now (tread .entry)))) (now (insns .entry)) section (now (records .entry)) .said) .number ⌝ }
+    ensures insns { λ _. ⌜ now (insns .exit) ≡ relocateRead (tabView (now (local .entry)) (now (ltable .entry)) (btfOf (now (lread .entry)))) (tabView (now (target .entry)) (now (ttable .entry)) (btfOf (now (tread .entry)))) (now (insns .entry)) section (now (records .entry)) .insns ⌝ }
+    ensures said { λ _. ⌜ now (said .exit) ≡ sets (now (said .entry)) 0 (five (saidNumbers (relocateRead (tabView (now (local .entry)) (now (ltable .entry)) (btfOf (now (lread .entry)))) (tabView (now (target .entry)) (now (ttable .entry)) (btfOf (now (tread .entry)))) (now (insns .entry)) section (now (records .entry)) .said))) ⌝ }
+{
+    let s = relocate_read(
+        local,
+        ltable,
+        btf_from(lread),
+        target,
+        ttable,
+        btf_from(tread),
+        insns,
+        section,
+        records,
+    );
+    let ending = s.ending;
+    let n = ending_numbers(s.applied, ending);
+    put_five(said, n);
+    n.number
+}
+
+// The report's length beside what was said.
+fn with_report(n: Numbers, long: u64) -> Numbers
+    ensures { λ r. ⌜ r ≡ reportedNumbers n long ⌝ }
+{
+    said_numbers(n.number, n.a, n.b, n.c, long, 0)
+}
+
+// The same, with the report of section 9 into a lent buffer; nothing is written to it where it is too short. Says the
+// report's length too.
+#[no_mangle]
+pub extern "C" fn leamugi_relocate_reported(
+    local: &[u8],
+    ltable: &[u32],
+    lread: &[u64],
+    target: &[u8],
+    ttable: &[u32],
+    tread: &[u64],
+    insns: &mut [u8],
+    section: u64,
+    records: &[u8],
+    said: &mut [u64],
+    out: &mut [u8],
+) -> u32
+    ensures number { λ r. ⌜ r ≡ saidNumbers (relocateRead (tabView (now (local .entry)) (now (ltable .entry)) (btfOf (now (lread .entry)))) (tabView (now (target .entry)) (now (ttable .entry)) (btfOf (now (tread .entry)))) (now (insns .entry)) section (now (records .entry)) .said) .number ⌝ }
+    ensures insns { λ _. ⌜ now (insns .exit) ≡ relocateRead (tabView (now (local .entry)) (now (ltable .entry)) (btfOf (now (lread .entry)))) (tabView (now (target .entry)) (now (ttable .entry)) (btfOf (now (tread .entry)))) (now (insns .entry)) section (now (records .entry)) .insns ⌝ }
+    ensures said { λ _. ⌜ now (said .exit) ≡ sets (now (said .entry)) 0 (five (reportedNumbers (saidNumbers (relocateRead (tabView (now (local .entry)) (now (ltable .entry)) (btfOf (now (lread .entry)))) (tabView (now (target .entry)) (now (ttable .entry)) (btfOf (now (tread .entry)))) (now (insns .entry)) section (now (records .entry)) .said)) (lengthOf (reported (reportOf (tabView (now (local .entry)) (now (ltable .entry)) (btfOf (now (lread .entry)))) (tabView (now (target .entry)) (now (ttable .entry)) (btfOf (now (tread .entry)))) (now (insns .entry)) section (now (records .entry))) (now (out .entry)))))) ⌝ }
+    ensures report { λ _. ⌜ now (out .exit) ≡ holding (reportOf (tabView (now (local .entry)) (now (ltable .entry)) (btfOf (now (lread .entry)))) (tabView (now (target .entry)) (now (ttable .entry)) (btfOf (now (tread .entry)))) (now (insns .entry)) section (now (records .entry))) (now (out .entry)) ⌝ }
+{
+    let lbtf = btf_from(lread);
+    let tbtf = btf_from(tread);
+    let s = relocate_read(
+        local,
+        ltable,
+        lbtf,
+        target,
+        ttable,
+        tbtf,
+        insns,
+        section,
+        records,
+    );
+    let ending = s.ending;
+    let n = ending_numbers(s.applied, ending);
+    let long = report_length(report(
+        local,
+        ltable,
+        lbtf,
+        target,
+        ttable,
+        tbtf,
+        section,
+        records,
+        s,
+        out,
+    ));
+    put_five(said, with_report(n, long));
     n.number
 }
