@@ -68,7 +68,7 @@ candidate = refl
 
 -- y of a, in a___v2: at bit 32 of the unnamed struct at bit 32; three parts
 pub match : fieldMatch B C (element 2 0 ∷ member 2 1 ∷ []) 4 ≡ Found (record { typ = 1; last = member 3 1; bits = 64; parts = 3 })
-unfolding fieldMatch targetSteps targetStep targetMember search level atElement resolve chain sizeOf elements sameText fieldsCompatible fieldsWithin meetFields textAt cut
+unfolding fieldMatch targetSteps targetStep targetMember search level atElement elementBits resolve chain sizeOf elements sameText fieldsCompatible fieldsWithin meetFields textAt cut
 match = refl
 
 -- A struct is compatible with any struct, and not with a pointer.

@@ -15,7 +15,7 @@ use Rattle.rules.specs.declared.Refusal.the-variants.{KindTooBig, NoMatch}
 use Rattle.rules.specs.declared.Answer.the-variants.{Applied, Poisoned, Refused}
 use Rattle.rules.specs.Kinds.{fieldByteOffset, typeSize}
 use Rattle.rules.specs.Types.{resolve, chain, sizeOf, elements, flavourless, sameText, fieldsCompatible, fieldsWithin, meetFields}
-use Rattle.rules.specs.Access.{parse, numbers, split, part, decimal, digits, lastOf, localFirstBits, localMember, localStep, localSteps, firstBits, localWalk, fieldAccess, typeAccess, localAccess}
+use Rattle.rules.specs.Access.{parse, numbers, split, part, decimal, digits, lastOf, localFirstBits, elementBits, localMember, localStep, localSteps, firstBits, localWalk, fieldAccess, typeAccess, localAccess}
 use Rattle.rules.specs.Value.{localValue, fieldValue, memberValue, plainValue, loadValue}
 use Rattle.rules.specs.Matching.{isCandidate, event, fieldMatch, targetSteps, targetStep, targetMember, search, level, atElement}
 use Rattle.rules.specs.Apply.{patch, patchFront, patchClass, patchMemory, resize, withOff, code}
@@ -53,7 +53,7 @@ records = rec 16 2 7 fieldByteOffset ∷ rec 32 3 11 typeSize ∷ []
 
 -- What is answered, and the instructions afterwards
 pub ran : listOf L T 0 (insns 0) records ≡ record { answers = Applied 16 ∷ Refused NoMatch ∷ []; insns = insns 16 }
-unfolding textAt cut putAt resolve chain sizeOf elements flavourless sameText fieldsCompatible fieldsWithin meetFields parse numbers split part decimal digits lastOf localFirstBits localMember localStep localSteps firstBits localWalk fieldAccess typeAccess localAccess localValue fieldValue memberValue plainValue loadValue isCandidate event fieldMatch targetSteps targetStep targetMember search level atElement patch patchFront patchClass patchMemory resize withOff code turn over eventAt matches absent conclude resizing compute accessed relocated apply recordOf listOf
+unfolding textAt cut putAt resolve chain sizeOf elements flavourless sameText fieldsCompatible fieldsWithin meetFields parse numbers split part decimal digits lastOf localFirstBits localMember localStep localSteps firstBits localWalk fieldAccess typeAccess localAccess localValue fieldValue memberValue plainValue loadValue isCandidate event fieldMatch targetSteps targetStep targetMember search level atElement elementBits patch patchFront patchClass patchMemory resize withOff code turn over eventAt matches absent conclude resizing compute accessed relocated apply recordOf listOf
 ran = refl
 
 -- The report, and how many records were applied before the refusal
