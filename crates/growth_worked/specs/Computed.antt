@@ -8,7 +8,7 @@ use Rattle.btf.specs.Sections.{begins, headOf, stringsFine}
 use Rattle.btf.specs.Accept.{encodingFine, good, stepAt, scan, allFit, fits, unfit, checked, accepted}
 use Rattle.view.specs.Text.{cut, textAt}
 use Rattle.view.specs.View.{off, typ, tabTyp}
-use Rattle.rules.specs.Refusal.{number, returned}
+use Rattle.rules.specs.Refusal.{returned}
 use Rattle.rules.specs.Types.{chain, resolve, elements, sizeOf, sameText, flavourless, pairs, params, meet, typesWithin, typesCompatible, meetFields, fieldsWithin, fieldsCompatible}
 use Rattle.rules.specs.Access.{digits, decimal, part, split, numbers, parse, lastOf, localFirstBits, localOpen, localMember, elementBits, localElement, localStep, localSteps, firstBits, localWalk, fieldAccess, typeAccess, variantAt, enumAccess, localAccess}
 use Rattle.rules.specs.Value.{bitfieldLoad, signedness, loadValue, plainValue, bitfieldValue, memberValue, elementValue, fieldValue, variantValue, typeValue, localValue}
