@@ -122,7 +122,7 @@ module _ (L T : View) (section : ℕ) (insns : List ℕ) (r : Record) where
   told false true (refused q) h = let z : _≡_ {A = ℕ} 0 1 = cc in absurd (omega arith)
   told false true (ok w) h = (refl, refl, (w, refl))
 
-  stages : isRefused (recordOf L T section insns r .answer) ≡ false
+  pub stages : isRefused (recordOf L T section insns r .answer) ≡ false
       → (ltb enumValue (r .kind) ≡ false) × (inFunction section insns r ≡ true) × ((w : Write) × (relocated L T r ≡ ok w))
   unfolding recordOf
   stages h = told (ltb enumValue (r .kind)) (inFunction section insns r) (relocated L T r) h

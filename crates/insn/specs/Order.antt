@@ -19,13 +19,13 @@ pub record Apart (xs : List ℕ) (i : ℕ) (w : Write) (j : ℕ) (u : Write) : T
   pub bytes : bytesOf (patch (bytesOf (patch xs i w)) j u) ≡ bytesOf (patch (bytesOf (patch xs j u)) i w)
 
 -- What two lists agree in
-drop-take : (a n : ℕ) (xs : List ℕ) → drop a (take (a + n) xs) ≡ take n (drop a xs)
+pub drop-take : (a n : ℕ) (xs : List ℕ) → drop a (take (a + n) xs) ≡ take n (drop a xs)
 drop-take zero n xs = ap (λ (m : ℕ). take m xs) (zero-add n)
 drop-take (suc a) n [] = rw (suc-add a n) (sym (take-nil n))
 drop-take (suc a) n (x ∷ xs) = rw (suc-add a n) (drop-take a n xs)
 
 module _ (n : ℕ) (xs ys : List ℕ) where
-  later : (m : ℕ) → n ≤ m → drop n xs ≡ drop n ys → drop m xs ≡ drop m ys
+  pub later : (m : ℕ) → n ≤ m → drop n xs ≡ drop n ys → drop m xs ≡ drop m ys
   later m h e =
       let s : m ≡ n + (m - n) = omega arith in
       ap (λ (k : ℕ). drop k xs) s ∙ sym (drop-drop (m - n) n xs) ∙ ap (drop (m - n)) e ∙ drop-drop (m - n) n ys ∙ ap (λ (k : ℕ). drop k ys) (sym s)
@@ -36,7 +36,7 @@ module _ (n : ℕ) (xs ys : List ℕ) where
   inside : (a m : ℕ) → a + m ≤ n → take n xs ≡ take n ys → take m (drop a xs) ≡ take m (drop a ys)
   inside a m h e = sym (drop-take a m xs) ∙ ap (drop a) (earlier (a + m) h e) ∙ drop-take a m ys
 
-  at : (a : ℕ) → a < n → take n xs ≡ take n ys → code (drop a xs) ≡ code (drop a ys)
+  pub at : (a : ℕ) → a < n → take n xs ≡ take n ys → code (drop a xs) ≡ code (drop a ys)
   unfolding code
   at a h e = getD-drop a xs 0 0 ∙ sym (getD-take n xs (a + 0) 0 (omega arith)) ∙ ap (λ (l : List ℕ). getD l (a + 0) 0) e ∙ getD-take n ys (a + 0) 0 (omega arith) ∙ sym (getD-drop a ys 0 0)
 

@@ -1,0 +1,3 @@
+pub mod Worked
+pub mod Computed
+pub mod Met

@@ -1,0 +1,28 @@
+-- The two records that are apart meet the hypotheses, so that they may be applied in any order.
+use Prim.Native.Nat.{ℕ, zero, suc}
+use mathlib.Core.Path.{_≡_, refl, sym, ap, _∙_}
+use mathlib.Core.Bool.{Bool, true, false, _||_}
+use mathlib.Core.List.{List, [], _∷_}
+use lib.Dec.{eqb}
+use borrow.Author.Tests.{eqb-true}
+use Rattle.rules.specs.Apply.{code}
+use Rattle.growth.specs.Demand3.{btfIn}
+use Rattle.growth_worked.specs.Worked.{mine, old}
+use Rattle.order.specs.AnyOrder.{touches, NoCommon, AnyOrder}
+use Rattle.order.specs.Lists.{any-order}
+use Rattle.order_worked.specs.Worked.{insns, valueOfX, offsetAt2}
+use Rattle.order_worked.specs.Computed.{worked}
+
+no-common : NoCommon 0 insns valueOfX offsetAt2
+unfolding touches code
+no-common k h = go (eqb k 0) refl (eqb k 1) refl h
+  where
+    go : (a : Bool) → eqb k 0 ≡ a → (b : Bool) → eqb k 1 ≡ b → (a || b) ≡ true → (eqb k 2 || false) ≡ false
+    go true e b f g = rw (eqb-true k 0 e)
+    go false e true f g = rw (eqb-true k 1 f)
+    go false e false f g = cc
+
+pub met : AnyOrder (btfIn mine) (btfIn old) 0 insns (valueOfX ∷ offsetAt2 ∷ []) (offsetAt2 ∷ valueOfX ∷ [])
+met =
+    any-order (btfIn mine) (btfIn old) 0 insns (valueOfX ∷ offsetAt2 ∷ []) (offsetAt2 ∷ valueOfX ∷ [])
+    (worked .accepted-x, (no-common, tt), (worked .accepted-2, tt, tt)) (valueOfX ∷ [], [], refl, ([], [], refl, refl))
