@@ -7,6 +7,7 @@ use native.Mathlib.Nat.{not-suc-le-zero}
 use native.Mathlib.Numerals.{sub-one}
 use lib.ListN.{length}
 use Rattle.view.specs.View.{View, docView, tabView}
+use Rattle.view.specs.Agree.{agrees}
 use Rattle.rules.specs.declared.Refusal.{Refusal}
 use Rattle.rules.specs.declared.Record.{Record}
 use Rattle.rules.specs.declared.Answer.{Answer}
@@ -22,7 +23,7 @@ use Rattle.btf.specs.Table.{decode, tabled}
 use Rattle.rules.specs.declared.Said.{Said}
 use Rattle.rules.specs.Record.{Outcome, recordOf}
 use Rattle.rules.specs.List.{Run, follow, listOf}
-use Rattle.rules.specs.Call.{recordAt, recordsFrom, ended, endOf, Effect, runOf, readThen}
+use Rattle.rules.specs.Call.{recordAt, recordsFrom, ended, endOf, Effect, runOf, readThen, relocateOf, relocateRead}
 
 -- What an answer and the instructions it leaves make
 abbrev pub outcomeOf : Answer → List ℕ → Outcome
@@ -132,3 +133,9 @@ module _ {L T : View} {section : ℕ} {rs xs₀ : List ℕ} {n k : ℕ} {xs : Li
       long = l ∙ g .long;
       rest = sym (run-applied L T section rs k n xs ys h a i told) ∙ g .rest;
     }
+
+-- Where the tables are what reading left, the call on BTFs that were read before is the whole call.
+pub read-before : (l ltable t ttable xs : List ℕ) (section : ℕ) (rs : List ℕ) {lb tb : Btf} → Read lb ≡ decode l (length ltable) → Read tb ≡ decode t (length ttable)
+    → relocateRead (tabView l (tabled l ltable) lb) (tabView t (tabled t ttable) tb) xs section rs ≡ relocateOf l (length ltable) t (length ttable) xs section rs
+unfolding relocateRead relocateOf
+read-before l ltable t ttable xs section rs {lb} {tb} p q = rw (agrees l ltable lb p, agrees t ttable tb q, ← p, ← q)
