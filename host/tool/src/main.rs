@@ -29,7 +29,20 @@ pub enum End {
     BadUse(String),
 }
 
+extern "C" {
+    fn signal(number: i32, handler: usize) -> usize;
+}
+
+/// A reader that goes away (`leamugi demo | head`) ends the program quietly, as it ends others.
+fn end_with_the_reader() {
+    const SIGPIPE: i32 = 13;
+    const SIG_DFL: usize = 0;
+    // SAFETY: the C library's call, with a signal's number and the default handling; no handler of ours is called.
+    unsafe { signal(SIGPIPE, SIG_DFL) };
+}
+
 fn main() -> ExitCode {
+    end_with_the_reader();
     let words: Vec<String> = std::env::args().skip(1).collect();
     let (command, rest) = match words.split_first() {
         Some((command, rest)) => (command.as_str(), rest),
