@@ -32,7 +32,7 @@ extern "C" {
  *   0  accepted: said[0..5] = where the types begin and how many bytes they have, the same of the strings, the last type
  *      id; table[0] = 0 and table[i] = where type i begins. Keep the five numbers: the other calls take them as `read`.
  *   1  bad BTF: said[0] = the id of the first fault, 0 for the header or the strings
- *   2  more than 4,194,304 bytes or 65,535 types
+ *   2  more than 16,777,216 bytes or 1,048,575 types
  *   3  the table is too short: said[0] = the entries that it needs
  * A refused read leaves the table as it was. */
 uint32_t leamugi_read(const uint8_t *btf, size_t btf_len, uint32_t *table, size_t table_len, uint64_t *said, size_t said_len);

@@ -6,8 +6,8 @@ use crate::{
     reading::Told,
 };
 
-const MAX_BYTES: usize = 4_194_304;
-const MAX_TYPES: usize = 65_535;
+const MAX_BYTES: usize = 16_777_216;
+const MAX_TYPES: usize = 1_048_575;
 const MAX_INSNS: usize = 4_096;
 const MOV: [u8; 8] = [0xb7, 1, 0, 0, 4, 0, 0, 0];
 
@@ -47,7 +47,7 @@ pub fn cases() -> Vec<Told> {
         told("types-over-target", &small, &over, 1, "outcome=2 btf=target applied=0"),
         told("types-most-and-1-byte", &types(MAX_TYPES, 1), &small, 1, "outcome=2 btf=local applied=0"),
         told("types-most-and-11-bytes", &small, &types(MAX_TYPES, 11), 1, "outcome=2 btf=target applied=0"),
-        told("types-less-and-11-bytes", &types(MAX_TYPES - 1, 11), &small, 1, "outcome=1 btf=local id=65535 applied=0"),
+        told("types-less-and-11-bytes", &types(MAX_TYPES - 1, 11), &small, 1, "outcome=1 btf=local id=1048575 applied=0"),
         told("insns-most", &small, &small, MAX_INSNS, accepted),
         told("insns-over", &small, &small, MAX_INSNS + 1, "outcome=18 applied=0"),
     ]

@@ -4,8 +4,8 @@
 
 use crate::case::word;
 
-const MAX_BYTES: usize = 4_194_304;
-const MAX_TYPES: u32 = 65_535;
+const MAX_BYTES: usize = 16_777_216;
+const MAX_TYPES: u32 = 1_048_575;
 const HEADER: usize = 24;
 const TYPE: usize = 12;
 

@@ -1,8 +1,8 @@
 //! Section 2's limits on both sides, through the library: what a proved program's stack is too small for.
-use leamugi::{Btf, BtfRefusal};
+use leamugi::{relocate, Btf, BtfRefusal};
 
-const MAX_BYTES: usize = 4_194_304;
-const MAX_TYPES: usize = 65_535;
+const MAX_BYTES: usize = 16_777_216;
+const MAX_TYPES: usize = 1_048_575;
 
 /// A BTF of these types and strings.
 fn btf(types: &[u8], strings: &[u8]) -> Vec<u8> {
@@ -28,6 +28,23 @@ fn types_up_to_the_limit() {
     let read = Btf::read(btf(&floats(MAX_TYPES), &[0])).expect("accepted");
     assert_eq!(read.types() as usize, MAX_TYPES);
     assert_eq!(read.type_at(MAX_TYPES as u32).kind, 16);
+}
+
+#[test]
+fn the_last_type_of_a_full_target_is_found() {
+    // FLOAT `f`; the string at 3 is the access `0`
+    let strings = b"\0f\x000\0";
+    let mut named = floats(1);
+    named[0] = 1;
+    let mut types = floats(MAX_TYPES - 1);
+    types.extend(&named);
+    let local = Btf::read(btf(&named, strings)).expect("accepted");
+    let target = Btf::read(btf(&types, strings)).expect("accepted");
+    let mut insn = [0xb7, 1, 0, 0, 1, 0, 0, 0];
+    // BPF_CORE_TYPE_ID_TARGET of type 1 at the first instruction
+    let record: Vec<u8> = [0, 1, 3, 7u32].into_iter().flat_map(u32::to_le_bytes).collect();
+    assert_eq!(relocate(&local, &target, &mut insn, 0, &record).expect("applied"), 1);
+    assert_eq!(u32::from_le_bytes(insn[4..].try_into().expect("four bytes")), MAX_TYPES as u32);
 }
 
 #[test]
