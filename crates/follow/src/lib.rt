@@ -14,6 +14,7 @@ use rules::Refusal;
 use rules::Resolved;
 use rules::Search;
 use rules::Target;
+use search::Wanted;
 use search::search_member;
 use types::resolve_type;
 use value::member_of;
@@ -136,6 +137,11 @@ fn target_step(
 {
     if accessor.named {
         let m = member_of(local, ltable, lbtf, accessor.typ, accessor.index);
+        let want = Wanted {
+            candidate: candidate,
+            from: from,
+            member: m,
+        };
         return search_member(
             local,
             ltable,
@@ -143,9 +149,7 @@ fn target_step(
             target,
             ttable,
             tbtf,
-            candidate,
-            from,
-            m,
+            want,
             from.typ,
             MAX_LEVELS,
         );

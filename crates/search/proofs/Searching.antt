@@ -14,7 +14,6 @@ use Rattle.kinds.specs.declared.Entry.{Entry}
 use Rattle.view.specs.View.{View}
 use Rattle.rules.specs.declared.Resolved.the-variants.{At, Endless}
 use Rattle.rules.specs.declared.Compat.{Compat}
-use Rattle.rules.specs.declared.Target.{Target}
 use Rattle.rules.specs.declared.Search.{Search}
 use Rattle.rules.specs.declared.Search.the-variants.{Found, Missing, Failed}
 use Rattle.rules.proofs.Search.{the-type}
@@ -26,7 +25,8 @@ use Rattle.rules.specs.Types.{resolve, isEmpty, sameText, fieldsCompatible}
 use Rattle.rules.specs.Matching.{grown, orElse, Sought, level, noLevel, membersOf, search}
 use Rattle.rules.specs.Turns.{level-turn}
 use Rattle.search.specs.Parts.{partsOf, search-parts}
-use Rattle.search.specs.Settled.{sought, searched, settled}
+use Rattle.search.specs.declared.Wanted.{Wanted}
+use Rattle.search.specs.Settled.{memberCount, sought, searched, settled}
 
 -- The search one level down
 abbrev pub deeper : (ℕ → Compat) → View → Sought → ℕ → ℕ → Search
@@ -59,79 +59,86 @@ unfolding search
 search-level fits T q zero i = refl
 search-level fits T q (suc levels) i = refl
 
--- The members of type i from index k on
-abbrev remaining : View → View → ℕ → Target → Entry → ℕ → ℕ → ℕ → Search
-remaining L T c s m levels i k =
-    level (deeper (fieldsCompatible L T (m .typ)) T (sought L c s m) levels) (fieldsCompatible L T (m .typ)) (T .text) (sought L c s m) i (T .typ i) k (drop k (T .typ i .entries))
+in-members : (b : Bool) (l : ℕ) {n k : ℕ} → n ≡ cond b l 0 → k < n → (b ≡ true) × (k < l)
+in-members true l e h = (refl, omega arith)
+in-members false l e h = absurd (omega arith)
 
-pub record Searching (L T : View) (c : ℕ) (s : Target) (m : Entry) (levels id i : ℕ) (name : List ℕ) (n k : ℕ) : Type 0 where
-  pub named : name ≡ L .text (m .name)
-  pub all : n ≡ length (T .typ i .entries)
-  pub rest : remaining L T c s m levels i k ≡ searched L T c s m levels id
+-- The members of type i from index k on
+abbrev remaining : View → View → Wanted → ℕ → ℕ → ℕ → Search
+remaining L T w levels i k =
+    level (deeper (fieldsCompatible L T (w .member .typ)) T (sought L w) levels) (fieldsCompatible L T (w .member .typ)) (T .text) (sought L w) i (T .typ i) k (drop k (T .typ i .entries))
+
+-- The loop's bound is the number of members, which no other type has.
+pub record Searching (L T : View) (w : Wanted) (levels id i : ℕ) (name : List ℕ) (n k : ℕ) : Type 0 where
+  pub named : name ≡ L .text (w .member .name)
+  pub all : n ≡ memberCount (T .typ i)
+  pub rest : cond (isComposite (T .typ i .kind)) (remaining L T w levels i k) Missing ≡ searched L T w levels id
 
 -- Before the loop
 
-module _ (L T : View) (c : ℕ) (s : Target) (m : Entry) (levels id : ℕ) where
-  pub search-endless : resolve (T .typ) id ≡ Endless → Failed Unresolved ≡ searched L T c s m levels id
-  search-endless e = sym (search-level _ T (sought L c s m) levels id ∙ rw e)
+module _ (L T : View) (w : Wanted) (levels id : ℕ) where
+  pub search-endless : resolve (T .typ) id ≡ Endless → Failed Unresolved ≡ searched L T w levels id
+  search-endless e = sym (search-level _ T (sought L w) levels id ∙ rw e)
 
-  module _ {i : ℕ} (e : resolve (T .typ) id ≡ At i) where
-    pub search-none : isComposite (T .typ i .kind) ≡ false → Missing ≡ searched L T c s m levels id
-    search-none h = sym (search-level _ T (sought L c s m) levels id ∙ rw (e, h))
-
-    pub searching-first : isComposite (T .typ i .kind) ≡ true → {name : List ℕ} {n : ℕ} → name ≡ L .text (m .name) → n ≡ length (T .typ i .entries)
-        → Searching L T c s m levels id i name n 0
-    searching-first h p q = record { named = p; all = q; rest = sym (search-level _ T (sought L c s m) levels id ∙ rw (e, h)) }
+  pub searching-first : {i : ℕ} → resolve (T .typ) id ≡ At i → {name : List ℕ} {n : ℕ} → name ≡ L .text (w .member .name) → n ≡ memberCount (T .typ i)
+      → Searching L T w levels id i name n 0
+  searching-first e p q = record { named = p; all = q; rest = sym (search-level _ T (sought L w) levels id ∙ rw e) }
 
 -- In the loop and after it
 
-module _ {L T : View} {c : ℕ} {s : Target} {m : Entry} {levels id i : ℕ} {name : List ℕ} {n k : ℕ} (v : Searching L T c s m levels id i name n k) where
-  pub searching-end : n ≤ k → Missing ≡ searched L T c s m levels id
+module _ {L T : View} {w : Wanted} {levels id i : ℕ} {name : List ℕ} {n k : ℕ} (v : Searching L T w levels id i name n k) where
+  at-end : (b : Bool) → n ≡ cond b (length (T .typ i .entries)) 0 → n ≤ k → cond b (remaining L T w levels i k) Missing ≡ Missing
   unfolding level
-  searching-end h = rw (drop-of-length-le (T .typ i .entries) {i = k} (omega (arith, v .all))) at (v .rest)
+  at-end true a h = rw (drop-of-length-le (T .typ i .entries) {i = k} (omega arith))
+  at-end false a h = refl
+
+  pub searching-end : n ≤ k → Missing ≡ searched L T w levels id
+  searching-end h = sym (at-end (isComposite (T .typ i .kind)) (v .all) h) ∙ v .rest
 
   module _ (h : k < n) where
-    pub searching-full : s .parts ≡ maxSpecLen → Failed (MaximumNesting c) ≡ searched L T c s m levels id
-    searching-full p =
-        let g : k < length (T .typ i .entries) = omega (arith, v .all) in
-        rw (eq-eqb (s .parts) maxSpecLen p) at (sym (level-turn _ _ _ _ _ (T .typ i) k g) ∙ v .rest)
+    inside : (isComposite (T .typ i .kind) ≡ true) × (k < length (T .typ i .entries))
+    inside = in-members (isComposite (T .typ i .kind)) (length (T .typ i .entries)) (v .all) h
 
-    module _ {e : Entry} {text : List ℕ} (room : s .parts ≡ maxSpecLen → ⊥) (p : e ≡ entryAt (T .typ i) k) (q : text ≡ T .text (e .name)) where
+    here : remaining L T w levels i k ≡ searched L T w levels id
+    here = rw (inside .0) at (v .rest)
+
+    pub searching-full : w .from .parts ≡ maxSpecLen → Failed (MaximumNesting (w .candidate)) ≡ searched L T w levels id
+    searching-full p = rw (eq-eqb (w .from .parts) maxSpecLen p) at (sym (level-turn _ _ _ _ _ (T .typ i) k (inside .1)) ∙ here)
+
+    module _ {e : Entry} {text : List ℕ} (room : w .from .parts ≡ maxSpecLen → ⊥) (p : e ≡ entryAt (T .typ i) k) (q : text ≡ T .text (e .name)) where
       tried : cond (isEmpty text)
-          (orElse (grown (memberBits (T .typ i) e) (deeper (fieldsCompatible L T (m .typ)) T (sought L c s m) levels (e .typ))) (remaining L T c s m levels i (suc k)))
-          (cond (sameText name text) (settled L T s m i k) (remaining L T c s m levels i (suc k)))
-          ≡ searched L T c s m levels id
+          (orElse (grown (memberBits (T .typ i) e) (deeper (fieldsCompatible L T (w .member .typ)) T (sought L w) levels (e .typ))) (remaining L T w levels i (suc k)))
+          (cond (sameText name text) (settled L T w i k) (remaining L T w levels i (suc k)))
+          ≡ searched L T w levels id
       unfolding settled
-      tried =
-          let g : k < length (T .typ i .entries) = omega (arith, v .all) in
-          rw (q, p, v .named) (rw (ne-eqb (s .parts) maxSpecLen room) at (sym (level-turn _ _ _ _ _ (T .typ i) k g) ∙ v .rest))
+      tried = rw (q, p, v .named) (rw (ne-eqb (w .from .parts) maxSpecLen room) at (sym (level-turn _ _ _ _ _ (T .typ i) k (inside .1)) ∙ here))
 
-      next : remaining L T c s m levels i (suc k) ≡ searched L T c s m levels id → Searching L T c s m levels id i name n (k + 1)
-      next r = record { named = v .named; all = v .all; rest = rw add-one r }
+      next : remaining L T w levels i (suc k) ≡ searched L T w levels id → Searching L T w levels id i name n (k + 1)
+      next r = record { named = v .named; all = v .all; rest = rw (inside .0, add-one) r }
 
-      pub searching-deep : length text ≡ 0 → levels ≡ 0 → Failed TooDeep ≡ searched L T c s m levels id
-      searching-deep z l = rw (empty-yes text z, deeper-none _ T (sought L c s m) levels (e .typ) l) at tried
+      pub searching-deep : length text ≡ 0 → levels ≡ 0 → Failed TooDeep ≡ searched L T w levels id
+      searching-deep z l = rw (empty-yes text z, deeper-none _ T (sought L w) levels (e .typ) l) at tried
 
-      module _ (z : length text ≡ 0) (l : levels ≡ 0 → ⊥) {below up : Search} {b : ℕ} (x : below ≡ searched L T c s m (levels - 1) (e .typ))
-          (y : b ≡ memberBits (T .typ i) e) (w : up ≡ grown b below) where
-        back : orElse up (remaining L T c s m levels i (suc k)) ≡ searched L T c s m levels id
-        back = rw (w, y, x) (rw (empty-yes text z, deeper-less _ T (sought L c s m) levels (e .typ) l) at tried)
+      module _ (z : length text ≡ 0) (l : levels ≡ 0 → ⊥) {below up : Search} {b : ℕ} (x : below ≡ searched L T w (levels - 1) (e .typ))
+          (y : b ≡ memberBits (T .typ i) e) (u : up ≡ grown b below) where
+        back : orElse up (remaining L T w levels i (suc k)) ≡ searched L T w levels id
+        back = rw (u, y, x) (rw (empty-yes text z, deeper-less _ T (sought L w) levels (e .typ) l) at tried)
 
-        pub searching-back : OneOf (0 ∷ 2 ∷ []) (tagOf the-type up) → up ≡ searched L T c s m levels id
+        pub searching-back : OneOf (0 ∷ 2 ∷ []) (tagOf the-type up) → up ≡ searched L T w levels id
         searching-back o = sym (orElse-ends up _ o) ∙ back
 
-        pub searching-past : up ≡ Missing → Searching L T c s m levels id i name n (k + 1)
+        pub searching-past : up ≡ Missing → Searching L T w levels id i name n (k + 1)
         searching-past o = next (rw o at back)
 
       module _ (z : length text ≡ 0 → ⊥) {same : Bool} (x : same ≡ sameText name text) where
-        named-one : cond same (settled L T s m i k) (remaining L T c s m levels i (suc k)) ≡ searched L T c s m levels id
+        named-one : cond same (settled L T w i k) (remaining L T w levels i (suc k)) ≡ searched L T w levels id
         named-one = rw x (rw (empty-no text z) at tried)
 
-        pub searching-settled : same ≡ true → settled L T s m i k ≡ searched L T c s m levels id
+        pub searching-settled : same ≡ true → settled L T w i k ≡ searched L T w levels id
         searching-settled o = rw o at named-one
 
-        pub searching-other : same ≡ false → Searching L T c s m levels id i name n (k + 1)
+        pub searching-other : same ≡ false → Searching L T w levels id i name n (k + 1)
         searching-other o = next (rw o at named-one)
 
-pub searched-parts : (L T : View) (c : ℕ) (s : Target) (m : Entry) (levels id : ℕ) {r : Search} → r ≡ searched L T c s m levels id → partsOf r ≤ s .parts + levels + 1
-searched-parts L T c s m levels id e = rw e (search-parts _ T (sought L c s m) levels id)
+pub searched-parts : (L T : View) (w : Wanted) (levels id : ℕ) {r : Search} → r ≡ searched L T w levels id → partsOf r ≤ w .from .parts + levels + 1
+searched-parts L T w levels id e = rw e (search-parts _ T (sought L w) levels id)

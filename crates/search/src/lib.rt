@@ -35,7 +35,14 @@ ghost use Prim.Native.Nat.{_+_, _<_};
 ghost use Rattle.view.specs.View.{tabView};
 ghost use Rattle.rules.specs.Matching.{grown, decided};
 ghost use Rattle.search.specs.Parts.{partsOf};
-ghost use Rattle.search.specs.Settled.{settled, searched};
+ghost use Rattle.search.specs.Settled.{memberCount, settled, searched};
+
+// The local member that is looked for, from a place of a candidate's walk.
+pub struct Wanted {
+    pub candidate: u32,
+    pub from: Target,
+    pub member: Entry,
+}
 
 // On the way back from a member: its bit offset is added, and one part, untested.
 fn grow(below: Search, bits: u32) -> Search
@@ -80,16 +87,17 @@ fn settle(
     target: &[u8],
     ttable: &[u32],
     tbtf: Btf,
-    from: Target,
-    member: Entry,
+    want: Wanted,
     id: u32,
     k: u32,
 ) -> Search
-    requires { ⌜ from .parts + 1 < 4294967296 ⌝ }
-    ensures { λ r. ⌜ r ≡ settled (tabView (now (local .entry)) (now (ltable .entry)) lbtf) (tabView (now (target .entry)) (now (ttable .entry)) tbtf) from member id k ⌝ }
+    requires { ⌜ want .from .parts + 1 < 4294967296 ⌝ }
+    ensures { λ r. ⌜ r ≡ settled (tabView (now (local .entry)) (now (ltable .entry)) lbtf) (tabView (now (target .entry)) (now (ttable .entry)) tbtf) want id k ⌝ }
 {
+    let from = want.from;
+    let own = want.member;
     let m = entry_of(target, ttable, tbtf, id, k);
-    let fit = fields_are_compatible(local, ltable, lbtf, target, ttable, tbtf, member.typ, m.typ);
+    let fit = fields_are_compatible(local, ltable, lbtf, target, ttable, tbtf, own.typ, m.typ);
     let last = Accessor {
         typ: id,
         index: k as u64,
@@ -110,7 +118,17 @@ fn settle(
     )
 }
 
-// The local member, in the target's type id: by its name, through unnamed members for as many levels as are left.
+// How many members a type has: none but in a struct or a union.
+fn members_of(bytes: &[u8], table: &[u32], btf: Btf, id: u32) -> u32
+    ensures { λ r. ⌜ r ≡ memberCount (tabView (now (bytes .entry)) (now (table .entry)) btf .typ id) ⌝ }
+{
+    if !is_composite(kind_of(bytes, table, btf, id)) {
+        return 0;
+    }
+    count_of(bytes, table, btf, id)
+}
+
+// The wanted member, in the target's type id: by its name, through unnamed members for as many levels as are left.
 pub fn search_member(
     local: &[u8],
     ltable: &[u32],
@@ -118,26 +136,20 @@ pub fn search_member(
     target: &[u8],
     ttable: &[u32],
     tbtf: Btf,
-    candidate: u32,
-    from: Target,
-    member: Entry,
+    want: Wanted,
     id: u32,
     levels: u32,
 ) -> Search
-    requires { ⌜ from .parts + levels + 2 < 4294967296 ⌝ }
-    ensures { λ r. ⌜ r ≡ searched (tabView (now (local .entry)) (now (ltable .entry)) lbtf) (tabView (now (target .entry)) (now (ttable .entry)) tbtf) candidate from member levels id ⌝ }
+    requires { ⌜ want .from .parts + levels + 2 < 4294967296 ⌝ }
+    ensures { λ r. ⌜ r ≡ searched (tabView (now (local .entry)) (now (ltable .entry)) lbtf) (tabView (now (target .entry)) (now (ttable .entry)) tbtf) want levels id ⌝ }
 {
-    let r = resolve_type(target, ttable, tbtf, id);
-    let Resolved::At(i) = r else {
+    let Resolved::At(i) = resolve_type(target, ttable, tbtf, id) else {
         return Search::Failed(Refusal::Unresolved);
     };
-    if !is_composite(kind_of(target, ttable, tbtf, i)) {
-        return Search::Missing;
-    }
-    let name = text_of(local, lbtf, member.name);
-    for k in 0..count_of(target, ttable, tbtf, i) {
-        if from.parts == MAX_SPEC_LEN {
-            return Search::Failed(Refusal::MaximumNesting(candidate));
+    let name = text_of(local, lbtf, want.member.name);
+    for k in 0..members_of(target, ttable, tbtf, i) {
+        if want.from.parts == MAX_SPEC_LEN {
+            return Search::Failed(Refusal::MaximumNesting(want.candidate));
         }
         let m = entry_of(target, ttable, tbtf, i, k);
         let text = text_of(target, tbtf, m.name);
@@ -145,36 +157,14 @@ pub fn search_member(
             if levels == 0 {
                 return Search::Failed(Refusal::TooDeep);
             }
-            let below = search_member(
-                local,
-                ltable,
-                lbtf,
-                target,
-                ttable,
-                tbtf,
-                candidate,
-                from,
-                member,
-                m.typ,
-                levels - 1,
-            );
+            let down = levels - 1;
+            let below = search_member(local, ltable, lbtf, target, ttable, tbtf, want, m.typ, down);
             let up = grow(below, member_bits(target, ttable, tbtf, i, m));
             let Search::Missing = up else {
                 return up;
             };
         } else if same_text(name, text) {
-            return settle(
-                local,
-                ltable,
-                lbtf,
-                target,
-                ttable,
-                tbtf,
-                from,
-                member,
-                i,
-                k,
-            );
+            return settle(local, ltable, lbtf, target, ttable, tbtf, want, i, k);
         }
     }
     Search::Missing

@@ -1,4 +1,4 @@
--- `search::target_step` meets its contract.
+-- `follow::target_step` meets its contract.
 -- Assumes nothing.
 use mathlib.Core.Path.{sym}
 use borrow.Author.Needs.{needs}
