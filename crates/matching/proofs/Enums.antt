@@ -23,9 +23,9 @@ use Rattle.rules.specs.Turns.{variant-turn}
 use Rattle.matching.specs.Candidates.{variantWorth, enumEvents}
 use Rattle.matching.proofs.Folding.{Folding}
 
-pub record Scanning (f : ℕ → Event) (last n : ℕ) (s : Matches) (i₀ i : ℕ) (T : View) (k : ℕ) (name : List ℕ) (e m j : ℕ) : Type 0 where
+pub record Scanning (f : ℕ → Event) (last n : ℕ) (end : Matches) (s : Matches) (i₀ i : ℕ) (T : View) (k : ℕ) (name : List ℕ) (e m j : ℕ) : Type 0 where
   pub same : i ≡ i₀
-  pub fold : Folding f last n s i
+  pub fold : Folding f last n end s i
   pub upto : i ≤ n
   pub all : m ≡ length (T .typ e .entries)
   pub here : f i ≡ variantEvent k (T .typ e) (variantNamed (T .text) name (drop j (T .typ e .entries)))
@@ -39,12 +39,12 @@ module _ (T : View) (k : ℕ) (name : List ℕ) (i : ℕ) where
   unfolding enumEvents enumEvent
   enum-other h r b = h ∙ rw (r, b)
 
-  pub scanning-first : {f : ℕ → Event} {last n : ℕ} {s : Matches} → Folding f last n s i → i ≤ n → f i ≡ enumEvents T k name i
-      → {e : ℕ} → resolve (T .typ) i ≡ At e → isEnum (T .typ e .kind) ≡ true → {m : ℕ} → m ≡ length (T .typ e .entries) → Scanning f last n s i i T k name e m 0
+  pub scanning-first : {f : ℕ → Event} {last n : ℕ} {end s : Matches} → Folding f last n end s i → i ≤ n → f i ≡ enumEvents T k name i
+      → {e : ℕ} → resolve (T .typ) i ≡ At e → isEnum (T .typ e .kind) ≡ true → {m : ℕ} → m ≡ length (T .typ e .entries) → Scanning f last n end s i i T k name e m 0
   unfolding enumEvents enumEvent
   scanning-first v l h r b a = record { same = refl; fold = v; upto = l; all = a; here = h ∙ rw (r, b) }
 
-module _ {f : ℕ → Event} {last n : ℕ} {s : Matches} {i₀ i : ℕ} {T : View} {k : ℕ} {name : List ℕ} {e m j : ℕ} (v : Scanning f last n s i₀ i T k name e m j) where
+module _ {f : ℕ → Event} {last n : ℕ} {end s : Matches} {i₀ i : ℕ} {T : View} {k : ℕ} {name : List ℕ} {e m j : ℕ} (v : Scanning f last n end s i₀ i T k name e m j) where
   pub scanning-none : m ≤ j → f i ≡ Nothing
   unfolding variantNamed
   scanning-none h = v .here ∙ rw (drop-of-length-le (T .typ e .entries) {i = j} (omega (arith, v .all)))
@@ -58,5 +58,5 @@ module _ {f : ℕ → Event} {last n : ℕ} {s : Matches} {i₀ i : ℕ} {T : Vi
     pub scanning-found : same ≡ true → f i ≡ Matched 0 (variantWorth k (T .typ e) x)
     scanning-found b = turned ∙ rw b
 
-    pub scanning-next : same ≡ false → Scanning f last n s i₀ i T k name e m (j + 1)
+    pub scanning-next : same ≡ false → Scanning f last n end s i₀ i T k name e m (j + 1)
     scanning-next b = record { same = v .same; fold = v .fold; upto = v .upto; all = v .all; here = rw add-one (turned ∙ rw b) }

@@ -1,4 +1,4 @@
--- The local path followed in the candidate i, at the accessor j: where the rest leads decides what i gives.
+-- The local path followed in the candidate i, at the accessor j: where the rest leads is where the whole path leads.
 -- Assumes nothing.
 use Prim.Native.Nat.{ℕ, suc, _+_, _*_, _≤_, _<_}
 use mathlib.Core.Path.{_≡_, refl, sym, _∙_}
@@ -10,82 +10,26 @@ use lib.Dec.{leb}
 use lib.ListN.{length, getD, take, drop, drop-of-length-le}
 use lib.Seq.{drop-cons, getD-take, length-take-le, take-all}
 use borrow.Author.Tests.{leb-false}
+use types.Run.{OneOf, miss}
+use denote.Enum.Declared.{tagOf}
 use Rattle.view.specs.View.{View}
 use Rattle.rules.specs.declared.Accessor.{Accessor}
 use Rattle.rules.specs.declared.Target.{Target}
 use Rattle.rules.specs.declared.Search.{Search}
 use Rattle.rules.specs.declared.Search.the-variants.{Found, Missing, Failed}
-use Rattle.rules.specs.declared.Refusal.{Refusal}
-use Rattle.rules.specs.declared.Value.{Value}
-use Rattle.rules.specs.declared.Event.{Event}
-use Rattle.rules.specs.declared.Event.the-variants.{Nothing, Bad}
-use Rattle.rules.specs.declared.Matches.{Matches}
-use Rattle.rules.specs.declared.Matches.the-variants.{Unmatched}
-use Rattle.rules.specs.Refusal.{Reply}
+use Rattle.rules.proofs.Search.{the-type}
 use Rattle.rules.specs.Access.{nowhere}
-use Rattle.rules.specs.Matching.{next, origin, fieldMatch, fieldEvent}
+use Rattle.rules.specs.Matching.{next, origin, fieldMatch}
 use Rattle.follow.specs.Walk.{stepAt, walkFrom, match-walked}
 use Rattle.follow.proofs.Parts.{step-parts}
-use Rattle.matching.specs.Candidates.{candidateBy, among, folded, fieldEvents}
-use Rattle.matching.proofs.Folding.{Folding, over-nothing}
 
--- The first m of the steps
-pub record Walking (f : ℕ → Event) (last n : ℕ) (kept : Matches) (i₀ i : ℕ) (L T : View) (kind : ℕ) (mine : Reply Value) (steps : List Accessor) (m : ℕ) (s : Target) (j : ℕ) : Type 0 where
-  pub same : i ≡ i₀
-  pub fold : Folding f last n kept i
-  pub upto : i ≤ n
+-- A path's table has 64 steps, whatever the count; m is the loop's own bound.
+pub record Following (L T : View) (steps : List Accessor) (n i m : ℕ) (s : Target) (j : ℕ) : Type 0 where
   pub room : m ≤ 64
   pub long : length steps ≡ 64
   pub few : s .parts ≤ 33 * j
-  pub here : f i ≡ fieldEvent (T .typ) kind mine (walkFrom L T i j s (drop j (take m steps)))
+  pub rest : walkFrom L T i j s (drop j (take m steps)) ≡ fieldMatch L T (take n steps) i
 
-walked : (L T : View) (path : List Accessor) (i : ℕ) → 0 < length path → fieldMatch L T path i ≡ walkFrom L T i 0 origin path
-walked L T [] i h = absurd (omega arith)
-walked L T (a ∷ more) i h = match-walked L T i a more
-
-pub walking-first : (L T : View) (kind : ℕ) (mine : Reply Value) (steps : List Accessor) (m i : ℕ) {f : ℕ → Event} {last n : ℕ} {kept : Matches} → Folding f last n kept i → i ≤ n
-    → f i ≡ fieldEvents L T kind mine (take m steps) i → m ≤ 64 → length steps ≡ 64 → (m ≡ 0 → ⊥) → Walking f last n kept i i L T kind mine steps m origin 0
-unfolding fieldEvents
-walking-first L T kind mine steps m i v l h r e g =
-    let some : 0 < length (take m steps) = omega (arith, length-take-le m steps (omega arith)) in
-    record { same = refl; fold = v; upto = l; room = r; long = e; few = omega arith; here = h ∙ rw (walked L T (take m steps) i some) }
-
-module _ {f : ℕ → Event} {last n : ℕ} {kept : Matches} {i₀ i : ℕ} {L T : View} {kind : ℕ} {mine : Reply Value} {steps : List Accessor} {m : ℕ} {s : Target} {j : ℕ}
-    (v : Walking f last n kept i₀ i L T kind mine steps m s j) where
-  count : length (take m steps) ≡ m
-  count = length-take-le m steps (omega (arith, v .room, v .long))
-
-  pub walking-end : m ≤ j → f i ≡ fieldEvent (T .typ) kind mine (Found s)
-  unfolding walkFrom
-  walking-end h = v .here ∙ rw (drop-of-length-le (take m steps) {i = j} (omega (arith, count)))
-
-  module _ (h : j < m) {step : Search} (q : step ≡ stepAt L T i j s (getD steps j nowhere)) where
-    turned : f i ≡ fieldEvent (T .typ) kind mine (next step (λ u. walkFrom L T i (suc j) u (drop (suc j) (take m steps))))
-    unfolding walkFrom
-    turned =
-        let g : j < length (take m steps) = omega (arith, count) in
-        v .here ∙ rw (drop-cons (take m steps) j nowhere g, getD-take m steps j nowhere h, q)
-
-    pub walking-missing : step ≡ Missing → f i ≡ Nothing
-    walking-missing e = turned ∙ rw e
-
-    pub walking-failed : {r : Refusal} → step ≡ Failed r → f i ≡ Bad r
-    walking-failed e = turned ∙ rw e
-
-    pub walking-found : {u : Target} → step ≡ Found u → Walking f last n kept i₀ i L T kind mine steps m u (j + 1)
-    walking-found {u} e =
-        let parts : u .parts ≤ s .parts + 33 = rw (sym q ∙ e) at (step-parts L T i j s (getD steps j nowhere)) in
-        record {
-          same = v .same;
-          fold = v .fold;
-          upto = v .upto;
-          room = v .room;
-          long = v .long;
-          few = omega (arith, v .few);
-          here = rw add-one (turned ∙ rw e);
-        }
-
--- A path's table has 64 steps, whatever the count.
 bounded : (n : ℕ) (steps : List Accessor) {m : ℕ} → m ≡ cond (leb n 64) n 64 → length steps ≡ 64 → take m steps ≡ take n steps
 bounded n steps e h = rw e (go (leb n 64) refl)
   where
@@ -93,18 +37,53 @@ bounded n steps e h = rw e (go (leb n 64) refl)
     go true e = refl
     go false e = take-all 64 steps (omega arith) ∙ sym (take-all n steps (omega (arith, leb-false n 64 e)))
 
-pub all-steps : (L T : View) (own : ℕ) (name : List ℕ) (kind : ℕ) (mine : Reply Value) (n : ℕ) (steps : List Accessor) {m : ℕ} → m ≡ cond (leb n 64) n 64
-    → length steps ≡ 64 → folded T own name (fieldEvents L T kind mine (take m steps)) ≡ folded T own name (fieldEvents L T kind mine (take n steps))
-all-steps L T own name kind mine n steps e h = rw (bounded n steps e h)
+some-steps : (n : ℕ) {m : ℕ} → m ≡ cond (leb n 64) n 64 → (n ≡ 0 → ⊥) → 0 < m
+some-steps n e h = rw e (go (leb n 64))
+  where
+    go : (b : Bool) → 0 < cond b n 64
+    go true = omega arith
+    go false = omega arith
+
+walked : (L T : View) (path : List Accessor) (i : ℕ) → 0 < length path → fieldMatch L T path i ≡ walkFrom L T i 0 origin path
+walked L T [] i h = absurd (omega arith)
+walked L T (a ∷ more) i h = match-walked L T i a more
 
 -- An empty path leads nowhere.
-pub no-steps : (L T : View) (own : ℕ) (name : List ℕ) (kind : ℕ) (mine : Reply Value) (n : ℕ) (steps : List Accessor) {m : ℕ} → m ≡ cond (leb n 64) n 64
-    → length steps ≡ 64 → m ≡ 0 → Unmatched ≡ folded T own name (fieldEvents L T kind mine (take n steps))
-unfolding folded among fieldEvents fieldMatch
-no-steps L T own name kind mine n steps {m} e h z =
-    let none : take n steps ≡ [] = sym (bounded n steps e h) ∙ rw z in
-    rw none (sym (over-nothing _ Unmatched 0 (suc (T .count)) (λ i. none-here (candidateBy own name T i))))
-  where
-    none-here : (b : Bool) → cond b Nothing Nothing ≡ Nothing
-    none-here true = refl
-    none-here false = refl
+pub following-none : (L T : View) (path : List Accessor) (i : ℕ) → path ≡ [] → Missing ≡ fieldMatch L T path i
+unfolding fieldMatch
+following-none L T path i z = sym (rw z)
+
+pub following-first : (L T : View) (steps : List Accessor) (n i : ℕ) {m : ℕ} {s : Target} → (n ≡ 0 → ⊥) → m ≡ cond (leb n 64) n 64 → m ≤ 64 → length steps ≡ 64 → s ≡ origin
+    → Following L T steps n i m s 0
+following-first L T steps n i {m} g e r l o =
+    let some : 0 < length (take m steps) = omega (arith, length-take-le m steps (omega arith), some-steps n e g) in
+    rw o (record { room = r; long = l; few = omega arith; rest = sym (walked L T (take m steps) i some) ∙ rw (bounded n steps e l) })
+
+-- Anything but a place ends the walk.
+next-ends : (x : Search) (go : Target → Search) → OneOf (1 ∷ 2 ∷ []) (tagOf the-type x) → next x go ≡ x
+next-ends (Found s) go h = absurd (miss (1 ∷ 2 ∷ []) 0 tt h)
+next-ends Missing go h = refl
+next-ends (Failed r) go h = refl
+
+module _ {L T : View} {steps : List Accessor} {n i m : ℕ} {s : Target} {j : ℕ} (v : Following L T steps n i m s j) where
+  count : length (take m steps) ≡ m
+  count = length-take-le m steps (omega (arith, v .room, v .long))
+
+  pub following-end : m ≤ j → Found s ≡ fieldMatch L T (take n steps) i
+  unfolding walkFrom
+  following-end h = rw (drop-of-length-le (take m steps) {i = j} (omega (arith, count))) at (v .rest)
+
+  module _ (h : j < m) {step : Search} (q : step ≡ stepAt L T i j s (getD steps j nowhere)) where
+    turned : next step (λ u. walkFrom L T i (suc j) u (drop (suc j) (take m steps))) ≡ fieldMatch L T (take n steps) i
+    unfolding walkFrom
+    turned =
+        let g : j < length (take m steps) = omega (arith, count) in
+        rw q (rw (drop-cons (take m steps) j nowhere g, getD-take m steps j nowhere h) at (v .rest))
+
+    pub following-stop : OneOf (1 ∷ 2 ∷ []) (tagOf the-type step) → step ≡ fieldMatch L T (take n steps) i
+    following-stop o = sym (next-ends step _ o) ∙ turned
+
+    pub following-next : {u : Target} → step ≡ Found u → Following L T steps n i m u (j + 1)
+    following-next {u} e =
+        let parts : u .parts ≤ s .parts + 33 = rw (sym q ∙ e) at (step-parts L T i j s (getD steps j nowhere)) in
+        record { room = v .room; long = v .long; few = omega (arith, v .few); rest = rw add-one (rw e at turned) }

@@ -26,11 +26,6 @@ turn-nothing Unmatched i = refl
 turn-nothing (Kept b v c n) i = refl
 turn-nothing (Halted r) i = refl
 
-pub over-nothing : (f : ℕ → Event) (s : Matches) (i n : ℕ) → ((j : ℕ) → f j ≡ Nothing) → over f s i n ≡ s
-unfolding over
-over-nothing f s i zero h = refl
-over-nothing f s i (suc n) h = rw (h i, turn-nothing s i) (over-nothing f s (suc i) n h)
-
 turn-bad : (s : Matches) (i : ℕ) (r : Refusal) → halted s ≡ false → turn s i (Bad r) ≡ Halted r
 unfolding turn
 turn-bad Unmatched i r h = refl
@@ -62,50 +57,52 @@ unfolding over turn
 over-halted f r i zero = refl
 over-halted f r i (suc n) = over-halted f r (suc i) n
 
--- ids 0 to `last`; n is the loop's own bound
-pub record Folding (f : ℕ → Event) (last n : ℕ) (s : Matches) (i : ℕ) : Type 0 where
+-- ids 0 to `last`; n is the loop's own bound, `end` what the whole fold comes to
+pub record Folding (f : ℕ → Event) (last n : ℕ) (end : Matches) (s : Matches) (i : ℕ) : Type 0 where
   pub all : n ≡ last
   pub fits : n < 4294967296
   pub going : halted s ≡ false
   pub few : conflicts s ≤ i
-  pub rest : over f s i (suc last - i) ≡ over f Unmatched 0 (suc last)
+  pub rest : over f s i (suc last - i) ≡ end
 
-pub folding-first : (f : ℕ → Event) (last : ℕ) → last < 4294967296 → Folding f last last Unmatched 0
-folding-first f last h = record { all = refl; fits = h; going = refl; few = omega arith; rest = let z : suc last - 0 ≡ suc last = omega arith in ap (over f Unmatched 0) z }
+pub folding-first : (f : ℕ → Event) (last : ℕ) {end : Matches} → last < 4294967296 → over f Unmatched 0 (suc last) ≡ end → Folding f last last end Unmatched 0
+folding-first f last h e =
+    record { all = refl; fits = h; going = refl; few = omega arith; rest = let z : suc last - 0 ≡ suc last = omega arith in ap (over f Unmatched 0) z ∙ e }
 
-pub folding-over : {f : ℕ → Event} {last n : ℕ} {s : Matches} {i : ℕ} → Folding f last n s i → n < i → s ≡ over f Unmatched 0 (suc last)
-unfolding over
-folding-over {f} {last} {n} {s} {i} v h = let z : suc last - i ≡ 0 = omega (arith, v .all) in rw z at (v .rest)
-
-module _ {f : ℕ → Event} {last n : ℕ} {s : Matches} {i : ℕ} (v : Folding f last n s i) (h : i ≤ n) where
-  turned : {e : Event} → f i ≡ e → over f (turn s i e) (suc i) (last - i) ≡ over f Unmatched 0 (suc last)
+module _ {f : ℕ → Event} {last n : ℕ} {end s : Matches} {i : ℕ} (v : Folding f last n end s i) where
+  pub folding-over : n < i → s ≡ end
   unfolding over
-  turned e =
-      let less : suc last - i ≡ suc (last - i) = omega (arith, v .all) in
-      rw (← e) (sym (ap (over f s i) less) ∙ v .rest)
+  folding-over h = let z : suc last - i ≡ 0 = omega (arith, v .all) in rw z at (v .rest)
 
-  next : {t : Matches} → halted t ≡ false → conflicts t ≤ i + 1 → over f t (suc i) (last - i) ≡ over f Unmatched 0 (suc last) → i < n → Folding f last n t (i + 1)
-  next {t} g c r l =
-      let less : suc last - (i + 1) ≡ last - i = omega arith in
-      record { all = v .all; fits = v .fits; going = g; few = c; rest = rw (less, add-one) r }
+  module _ (h : i ≤ n) where
+    turned : {e : Event} → f i ≡ e → over f (turn s i e) (suc i) (last - i) ≡ end
+    unfolding over
+    turned e =
+        let less : suc last - i ≡ suc (last - i) = omega (arith, v .all) in
+        rw (← e) (sym (ap (over f s i) less) ∙ v .rest)
 
-  ended : {t : Matches} → over f t (suc i) (last - i) ≡ over f Unmatched 0 (suc last) → n ≤ i → t ≡ over f Unmatched 0 (suc last)
-  unfolding over
-  ended r l = let z : last - i ≡ 0 = omega (arith, v .all) in rw z at r
+    next : {t : Matches} → halted t ≡ false → conflicts t ≤ i + 1 → over f t (suc i) (last - i) ≡ end → i < n → Folding f last n end t (i + 1)
+    next {t} g c r l =
+        let less : suc last - (i + 1) ≡ last - i = omega arith in
+        record { all = v .all; fits = v .fits; going = g; few = c; rest = rw (less, add-one) r }
 
-  module _ (p : f i ≡ Nothing) where
-    pub pass-next : i < n → Folding f last n s (i + 1)
-    pass-next = next (v .going) (omega (arith, v .few)) (rw turn-nothing at (turned p))
+    ended : {t : Matches} → over f t (suc i) (last - i) ≡ end → n ≤ i → t ≡ end
+    unfolding over
+    ended r l = let z : last - i ≡ 0 = omega (arith, v .all) in rw z at r
 
-    pub pass-end : n ≤ i → s ≡ over f Unmatched 0 (suc last)
-    pass-end = ended (rw turn-nothing at (turned p))
+    module _ (p : f i ≡ Nothing) where
+      pub pass-next : i < n → Folding f last n end s (i + 1)
+      pass-next = next (v .going) (omega (arith, v .few)) (rw turn-nothing at (turned p))
 
-  module _ {b : ℕ} {w : Worth} (p : f i ≡ Matched b w) {t : Matches} (q : t ≡ turn s i (Matched b w)) where
-    pub keep-next : i < n → Folding f last n t (i + 1)
-    keep-next = rw q (next (turn-goes s i b w (v .going)) (omega (arith, turn-few s i b w, v .few)) (turned p))
+      pub pass-end : n ≤ i → s ≡ end
+      pass-end = ended (rw turn-nothing at (turned p))
 
-    pub keep-end : n ≤ i → t ≡ over f Unmatched 0 (suc last)
-    keep-end = rw q (ended (turned p))
+    module _ {b : ℕ} {w : Worth} (p : f i ≡ Matched b w) {t : Matches} (q : t ≡ turn s i (Matched b w)) where
+      pub keep-next : i < n → Folding f last n end t (i + 1)
+      keep-next = rw q (next (turn-goes s i b w (v .going)) (omega (arith, turn-few s i b w, v .few)) (turned p))
 
-  pub halt : {r : Refusal} → f i ≡ Bad r → Halted r ≡ over f Unmatched 0 (suc last)
-  halt {r} p = sym (over-halted f r (suc i) (last - i)) ∙ (rw (turn-bad s i r (v .going)) at (turned p))
+      pub keep-end : n ≤ i → t ≡ end
+      keep-end = rw q (ended (turned p))
+
+    pub halt : {r : Refusal} → f i ≡ Bad r → Halted r ≡ end
+    halt {r} p = sym (over-halted f r (suc i) (last - i)) ∙ (rw (turn-bad s i r (v .going)) at (turned p))

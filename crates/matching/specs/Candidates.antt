@@ -1,10 +1,9 @@
 -- The fold over all target types as the code goes: a candidate by the kind and the name that were found before, and what it gives.
-use Prim.Native.Nat.{ℕ, zero, suc, _≤_}
-use mathlib.Core.Path.{_≡_}
+use Prim.Native.Nat.{ℕ, zero, suc}
+use mathlib.Core.Path.{_≡_, refl}
 use mathlib.Core.Bool.{Bool, cond, _&&_}
 use mathlib.Core.List.{List}
 use lib.Dec.{eqb}
-use lib.ListN.{length}
 use Rattle.kinds.specs.declared.Entry.{Entry}
 use Rattle.kinds.specs.Types.{Ty}
 use Rattle.view.specs.View.{View}
@@ -34,9 +33,9 @@ candidateBy own name T i = eqb own (T .typ i .kind) && sameFlavourless name (T .
 unfoldable pub among : View → ℕ → List ℕ → (ℕ → Event) → ℕ → Event
 among T own name f i = let e = f i in cond (candidateBy own name T i) e Nothing
 
--- All ids, in order from 0
-unfoldable pub folded : View → ℕ → List ℕ → (ℕ → Event) → Matches
-folded T own name f = over (among T own name f) Unmatched 0 (suc (T .count))
+-- All ids, in order from 0: what is kept of the matches of a record's candidates
+unfoldable pub folded : View → View → Record → (ℕ → Event) → Matches
+folded L T r f = over (among T (L .typ (r .typ) .kind) (L .text (L .typ (r .typ) .name)) f) Unmatched 0 (suc (T .count))
 
 -- The conflicts counted so far
 abbrev pub conflicts : Matches → ℕ
@@ -60,12 +59,6 @@ enumEvents T k name i = enumEventAt T k name (resolve (T .typ) i)
 unfoldable pub fieldEvents : View → View → ℕ → Reply Value → List Accessor → ℕ → Event
 fieldEvents L T k mine steps i = fieldEvent (T .typ) k mine (fieldMatch L T steps i)
 
--- A path of 1 to 64 steps: the first n of a table
-pub record FewSteps (n : ℕ) (steps : List Accessor) : Type 0 where
-  pub some : n ≡ 0 → ⊥
-  pub few : n ≤ 64
-  pub long : length steps ≡ 64
-
 -- The rules' matches of what a record accesses; an access that is refused ends all
 abbrev pub matchesOf : View → View → Record → Reply Access → Reply Value → Matches
 matchesOf L T r (ok a) mine = matches L T r a mine
@@ -73,16 +66,15 @@ matchesOf L T r (refused q) mine = Halted q
 
 -- The folds are the rules' matches.
 
-module _ (L T : View) (r : Record) {own : ℕ} {name : List ℕ} (p : own ≡ L .typ (r .typ) .kind) (q : name ≡ L .text (L .typ (r .typ) .name)) where
-  pub type-all : (mine : Reply Value) → folded T own name (typeEvents L T (r .kind) (r .typ)) ≡ matches L T r whole mine
+module _ (L T : View) (r : Record) (mine : Reply Value) where
+  pub type-all : folded L T r (typeEvents L T (r .kind) (r .typ)) ≡ matches L T r whole mine
   unfolding folded among matches eventAt isCandidate typeEvents event
-  type-all mine = rw (p, q)
+  type-all = refl
 
-  pub enum-all : (of x : ℕ) (mine : Reply Value) {v : List ℕ} → v ≡ L .text (entryAt (L .typ of) x .name)
-      → folded T own name (enumEvents T (r .kind) v) ≡ matches L T r (variant of x) mine
+  pub enum-all : (of x : ℕ) → folded L T r (enumEvents T (r .kind) (L .text (entryAt (L .typ of) x .name))) ≡ matches L T r (variant of x) mine
   unfolding folded among matches eventAt isCandidate enumEvents event
-  enum-all of x mine e = rw (p, q, e)
+  enum-all of x = refl
 
-  pub field-all : (steps : List Accessor) (bits : ℕ) (mine : Reply Value) → folded T own name (fieldEvents L T (r .kind) mine steps) ≡ matches L T r (path steps bits) mine
+  pub field-all : (steps : List Accessor) (bits : ℕ) → folded L T r (fieldEvents L T (r .kind) mine steps) ≡ matches L T r (path steps bits) mine
   unfolding folded among matches eventAt isCandidate fieldEvents event
-  field-all steps bits mine = rw (p, q)
+  field-all steps bits = refl

@@ -36,10 +36,11 @@ ghost use lib.ListN.{take};
 ghost use Rattle.view.specs.View.{tabView};
 ghost use Rattle.rules.specs.declared.Event.the-variants.{Matched};
 ghost use Rattle.rules.specs.Record.{agree, agrees, turn};
-ghost use Rattle.matching.specs.Candidates.{FewSteps, candidateBy, conflicts, variantWorth, typeEvents, enumEvents, fieldEvents, folded, matchesOf};
+ghost use Rattle.matching.specs.Candidates.{candidateBy, conflicts, variantWorth, typeEvents, enumEvents, fieldEvents, folded, matchesOf};
 ghost use Rattle.access.specs.Replies.{accessOf};
 ghost use Rattle.value.specs.Replies.{replyOf};
-ghost use Rattle.rules.specs.Matching.{worth, fieldEvent};
+ghost use Rattle.rules.specs.Fields.{entryAt};
+ghost use Rattle.rules.specs.Matching.{worth, fieldMatch, fieldEvent};
 ghost use Rattle.rules.specs.Matching.{origin as nowhereYet};
 ghost use Rattle.rules.specs.declared.Search.the-variants.{Found};
 
@@ -125,7 +126,7 @@ fn worth_event(v: Valued) -> Event
     }
 }
 
-// What the target's type id gives, as a whole, to a record of this kind on the local type `typ`.
+// What the target's type id gives, as a whole, to a record.
 fn type_event(
     local: &[u8],
     ltable: &[u32],
@@ -133,22 +134,21 @@ fn type_event(
     target: &[u8],
     ttable: &[u32],
     tbtf: Btf,
-    kind: u32,
-    typ: u32,
+    relo: Record,
     id: u32,
 ) -> Event
-    ensures { λ r. ⌜ r ≡ typeEvents (tabView (now (local .entry)) (now (ltable .entry)) lbtf) (tabView (now (target .entry)) (now (ttable .entry)) tbtf) kind typ id ⌝ }
+    ensures { λ r. ⌜ r ≡ typeEvents (tabView (now (local .entry)) (now (ltable .entry)) lbtf) (tabView (now (target .entry)) (now (ttable .entry)) tbtf) (relo .kind) (relo .typ) id ⌝ }
 {
-    let fit = types_are_compatible(local, ltable, lbtf, target, ttable, tbtf, typ, id);
+    let fit = types_are_compatible(local, ltable, lbtf, target, ttable, tbtf, relo.typ, id);
     match fit {
-        Compat::Compatible => worth_event(type_value(target, ttable, tbtf, kind, id)),
+        Compat::Compatible => worth_event(type_value(target, ttable, tbtf, relo.kind, id)),
         Compat::Different => Event::Nothing,
         Compat::Broken => Event::Bad(Refusal::Unresolved),
         Compat::Beyond => Event::Bad(Refusal::TooDeep),
     }
 }
 
-// The matches of a record of a type kind on the local type `typ`.
+// The matches of a record of a type kind.
 fn type_matches(
     local: &[u8],
     ltable: &[u32],
@@ -156,19 +156,18 @@ fn type_matches(
     target: &[u8],
     ttable: &[u32],
     tbtf: Btf,
-    kind: u32,
-    own: u32,
-    name: &[u8],
-    typ: u32,
+    relo: Record,
 ) -> Matches
-    ensures { λ r. ⌜ r ≡ folded (tabView (now (target .entry)) (now (ttable .entry)) tbtf) own (now (name .entry)) (typeEvents (tabView (now (local .entry)) (now (ltable .entry)) lbtf) (tabView (now (target .entry)) (now (ttable .entry)) tbtf) kind typ) ⌝ }
+    ensures { λ r. ⌜ r ≡ folded (tabView (now (local .entry)) (now (ltable .entry)) lbtf) (tabView (now (target .entry)) (now (ttable .entry)) tbtf) relo (typeEvents (tabView (now (local .entry)) (now (ltable .entry)) lbtf) (tabView (now (target .entry)) (now (ttable .entry)) tbtf) (relo .kind) (relo .typ)) ⌝ }
 {
+    let own = kind_of(local, ltable, lbtf, relo.typ);
+    let name = type_name(local, ltable, lbtf, relo.typ);
     let mut kept = Matches::Unmatched;
     for id in 0..=tbtf.last {
         if !is_candidate(target, ttable, tbtf, own, name, id) {
             continue;
         }
-        let event = type_event(local, ltable, lbtf, target, ttable, tbtf, kind, typ, id);
+        let event = type_event(local, ltable, lbtf, target, ttable, tbtf, relo, id);
         match event {
             Event::Nothing => {}
             Event::Matched(bits, worth) => {
@@ -199,26 +198,31 @@ fn variant_worth(
     Worth::Known(plain_value(variant_value(target, ttable, tbtf, id, found)))
 }
 
-// The matches of a record of an enum kind, on a local variant of this name: a candidate is settled by its first variant of
-// the same name, but for flavours.
+// The matches of a record of an enum kind, on the variant `index` of the local enum `of`: a candidate is settled by its first
+// variant of the same name, but for flavours.
 fn enum_matches(
+    local: &[u8],
+    ltable: &[u32],
+    lbtf: Btf,
     target: &[u8],
     ttable: &[u32],
     tbtf: Btf,
-    kind: u32,
-    own: u32,
-    name: &[u8],
-    variant: &[u8],
+    relo: Record,
+    of: u32,
+    index: u32,
 ) -> Matches
-    ensures { λ r. ⌜ r ≡ folded (tabView (now (target .entry)) (now (ttable .entry)) tbtf) own (now (name .entry)) (enumEvents (tabView (now (target .entry)) (now (ttable .entry)) tbtf) kind (now (variant .entry))) ⌝ }
+    ensures { λ r. ⌜ r ≡ folded (tabView (now (local .entry)) (now (ltable .entry)) lbtf) (tabView (now (target .entry)) (now (ttable .entry)) tbtf) relo (enumEvents (tabView (now (target .entry)) (now (ttable .entry)) tbtf) (relo .kind) ((tabView (now (local .entry)) (now (ltable .entry)) lbtf) .text (entryAt ((tabView (now (local .entry)) (now (ltable .entry)) lbtf) .typ of) index .name))) ⌝ }
 {
+    let own = kind_of(local, ltable, lbtf, relo.typ);
+    let name = type_name(local, ltable, lbtf, relo.typ);
+    let asked = entry_of(local, ltable, lbtf, of, index);
+    let variant = text_of(local, lbtf, asked.name);
     let mut kept = Matches::Unmatched;
     'candidates: for id in 0..=tbtf.last {
         if !is_candidate(target, ttable, tbtf, own, name, id) {
             continue 'candidates;
         }
-        let r = resolve_type(target, ttable, tbtf, id);
-        let Resolved::At(e) = r else {
+        let Resolved::At(e) = resolve_type(target, ttable, tbtf, id) else {
             return Matches::Halted(Refusal::Unresolved);
         };
         if !is_enum(kind_of(target, ttable, tbtf, e)) {
@@ -227,7 +231,8 @@ fn enum_matches(
         for k in 0..count_of(target, ttable, tbtf, e) {
             let v = entry_of(target, ttable, tbtf, e, k);
             if same_flavourless(variant, text_of(target, tbtf, v.name)) {
-                kept = keep(kept, id, 0, variant_worth(target, ttable, tbtf, kind, e, v));
+                let worth = variant_worth(target, ttable, tbtf, relo.kind, e, v);
+                kept = keep(kept, id, 0, worth);
                 continue 'candidates;
             }
         }
@@ -286,7 +291,54 @@ fn steps_in(count: usize) -> usize
     64
 }
 
-// The matches of a record of a field kind: each candidate follows the local path, and is left once a step finds nothing.
+// The first `count` steps of a local path, followed in candidate id: left once a step finds nothing or is refused.
+fn followed(
+    local: &[u8],
+    ltable: &[u32],
+    lbtf: Btf,
+    target: &[u8],
+    ttable: &[u32],
+    tbtf: Btf,
+    steps: [Accessor; 64],
+    count: usize,
+    id: u32,
+) -> Search
+    ensures { λ r. ⌜ r ≡ fieldMatch (tabView (now (local .entry)) (now (ltable .entry)) lbtf) (tabView (now (target .entry)) (now (ttable .entry)) tbtf) (take count steps) id ⌝ }
+{
+    if count == 0 {
+        return Search::Missing;
+    }
+    let mut place = origin();
+    for k in 0..steps_in(count) {
+        let own = steps[k];
+        let step = path_step(local, ltable, lbtf, target, ttable, tbtf, id, place, own, k);
+        let Search::Found(s) = step else {
+            return step;
+        };
+        place = s;
+    }
+    Search::Found(place)
+}
+
+// What a candidate gives where the local path was followed.
+fn field_event(
+    target: &[u8],
+    ttable: &[u32],
+    tbtf: Btf,
+    kind: u32,
+    mine: Valued,
+    found: Search,
+) -> Event
+    ensures { λ r. ⌜ r ≡ fieldEvent ((tabView (now (target .entry)) (now (ttable .entry)) tbtf) .typ) kind (replyOf mine) found ⌝ }
+{
+    match found {
+        Search::Missing => Event::Nothing,
+        Search::Failed(r) => Event::Bad(r),
+        Search::Found(place) => place_event(target, ttable, tbtf, kind, mine, place),
+    }
+}
+
+// The matches of a record of a field kind, on the path of the first `count` steps.
 fn field_matches(
     local: &[u8],
     ltable: &[u32],
@@ -294,48 +346,22 @@ fn field_matches(
     target: &[u8],
     ttable: &[u32],
     tbtf: Btf,
-    kind: u32,
-    own: u32,
-    name: &[u8],
+    relo: Record,
     steps: [Accessor; 64],
     count: usize,
     mine: Valued,
 ) -> Matches
-    requires { ⌜ FewSteps count steps ⌝ }
-    ensures { λ r. ⌜ r ≡ folded (tabView (now (target .entry)) (now (ttable .entry)) tbtf) own (now (name .entry)) (fieldEvents (tabView (now (local .entry)) (now (ltable .entry)) lbtf) (tabView (now (target .entry)) (now (ttable .entry)) tbtf) kind (replyOf mine) (take count steps)) ⌝ }
+    ensures { λ r. ⌜ r ≡ folded (tabView (now (local .entry)) (now (ltable .entry)) lbtf) (tabView (now (target .entry)) (now (ttable .entry)) tbtf) relo (fieldEvents (tabView (now (local .entry)) (now (ltable .entry)) lbtf) (tabView (now (target .entry)) (now (ttable .entry)) tbtf) (relo .kind) (replyOf mine) (take count steps)) ⌝ }
 {
+    let own = kind_of(local, ltable, lbtf, relo.typ);
+    let name = type_name(local, ltable, lbtf, relo.typ);
     let mut kept = Matches::Unmatched;
-    'candidates: for id in 0..=tbtf.last {
+    for id in 0..=tbtf.last {
         if !is_candidate(target, ttable, tbtf, own, name, id) {
-            continue 'candidates;
+            continue;
         }
-        let mut place = origin();
-        for k in 0..count {
-            let step = path_step(
-                local,
-                ltable,
-                lbtf,
-                target,
-                ttable,
-                tbtf,
-                id,
-                place,
-                steps[k],
-                k,
-            );
-            match step {
-                Search::Found(s) => {
-                    place = s;
-                }
-                Search::Missing => {
-                    continue 'candidates;
-                }
-                Search::Failed(r) => {
-                    return Matches::Halted(r);
-                }
-            }
-        }
-        let event = place_event(target, ttable, tbtf, kind, mine, place);
+        let found = followed(local, ltable, lbtf, target, ttable, tbtf, steps, count, id);
+        let event = field_event(target, ttable, tbtf, relo.kind, mine, found);
         match event {
             Event::Nothing => {}
             Event::Matched(bits, worth) => {
@@ -347,43 +373,6 @@ fn field_matches(
         }
     }
     kept
-}
-
-// The same, for any count.
-fn path_matches(
-    local: &[u8],
-    ltable: &[u32],
-    lbtf: Btf,
-    target: &[u8],
-    ttable: &[u32],
-    tbtf: Btf,
-    kind: u32,
-    own: u32,
-    name: &[u8],
-    steps: [Accessor; 64],
-    count: usize,
-    mine: Valued,
-) -> Matches
-    ensures { λ r. ⌜ r ≡ folded (tabView (now (target .entry)) (now (ttable .entry)) tbtf) own (now (name .entry)) (fieldEvents (tabView (now (local .entry)) (now (ltable .entry)) lbtf) (tabView (now (target .entry)) (now (ttable .entry)) tbtf) kind (replyOf mine) (take count steps)) ⌝ }
-{
-    let n = steps_in(count);
-    if n == 0 {
-        return Matches::Unmatched;
-    }
-    field_matches(
-        local,
-        ltable,
-        lbtf,
-        target,
-        ttable,
-        tbtf,
-        kind,
-        own,
-        name,
-        steps,
-        n,
-        mine,
-    )
 }
 
 // What is kept of the matches of a record's candidates, given what it accesses and its local value.
@@ -400,50 +389,23 @@ pub fn match_candidates(
 ) -> Matches
     ensures { λ r. ⌜ r ≡ matchesOf (tabView (now (local .entry)) (now (ltable .entry)) lbtf) (tabView (now (target .entry)) (now (ttable .entry)) tbtf) relo (accessOf access) (replyOf mine) ⌝ }
 {
-    let kind = relo.kind;
-    let own = kind_of(local, ltable, lbtf, relo.typ);
-    let name = type_name(local, ltable, lbtf, relo.typ);
     let reach = access.reach;
     match reach {
         Reach::Refused(r) => Matches::Halted(r),
-        Reach::Whole => {
-            type_matches(
-                local,
-                ltable,
-                lbtf,
-                target,
-                ttable,
-                tbtf,
-                kind,
-                own,
-                name,
-                relo.typ,
-            )
-        }
+        Reach::Whole => type_matches(local, ltable, lbtf, target, ttable, tbtf, relo),
         Reach::Variant(of, index) => {
-            let v = entry_of(local, ltable, lbtf, of, index);
-            enum_matches(
-                target,
-                ttable,
-                tbtf,
-                kind,
-                own,
-                name,
-                text_of(local, lbtf, v.name),
-            )
+            enum_matches(local, ltable, lbtf, target, ttable, tbtf, relo, of, index)
         }
         Reach::Path(count, _) => {
             let steps = access.steps;
-            path_matches(
+            field_matches(
                 local,
                 ltable,
                 lbtf,
                 target,
                 ttable,
                 tbtf,
-                kind,
-                own,
-                name,
+                relo,
                 steps,
                 count,
                 mine,

@@ -10,26 +10,22 @@ returns : tie.Need-returns
 returns c = sym (rw (c .before .reach .given .1))
 
 returns-2 : tie.Need-returns-2
-returns-2 c = rw (c .before .enum-told .given .1) ((c .type-matches .ensures) ∙ type-all _ _ (c .before .before .before .before .before .before .before .before .before .args .relo) (c .before .before .before .before .kind-of .ensures) (c .before .before .before .type-name .ensures) _)
+returns-2 c = rw (c .before .enum-told .given .1) ((c .type-matches .ensures) ∙ type-all _ _ _ _)
 
 returns-3 : tie.Need-returns-3
-returns-3 c = rw (c .before .before .before .before .reach2 .given .1) ((c .enum-matches .ensures) ∙ enum-all _ _ (c .before .before .before .before .before .before .before .before .before .before .before .before .args .relo) (c .before .before .before .before .before .before .before .kind-of .ensures) (c .before .before .before .before .before .before .type-name .ensures) _ _ _ ((c .before .text-of .ensures) ∙ rw (c .before .before .entry-of .ensures)))
+returns-3 c = rw (c .before .before .reach2 .given .1) ((c .enum-matches .ensures) ∙ enum-all _ _ _ _ _ _)
 
 returns-4 : tie.Need-returns-4
-returns-4 c = rw (c .before .before .before .reach3 .given .1) ((c .path-matches .ensures) ∙ field-all _ _ (c .before .before .before .before .before .before .before .before .before .before .before .args .relo) (c .before .before .before .before .before .before .kind-of .ensures) (c .before .before .before .before .before .type-name .ensures) _ _ _)
+returns-4 c = rw (c .before .before .before .reach3 .given .1) ((c .field-matches .ensures) ∙ field-all _ _ _ _ _ _)
 
 pub match-candidates-spec : {M : Type 1} → statement M
 match-candidates-spec =
     tie.close
     (tie.spec
-    (λ c κs. search needs)
-    (λ c κs. search needs)
     (λ c. search needs)
     (λ c. search needs)
     (λ c κs. search needs)
     (λ c. search needs)
-    (λ c κs. search needs)
-    (λ c κs. search needs)
     (λ c κs. search needs)
     (λ c. search needs)
     (λ c κs. search needs)

@@ -8,20 +8,20 @@ use borrow.Author.Tests.{not-true, not-false}
 use borrow.Author.Needs.{needs}
 use Rattle.view.specs.View.{tabView}
 use Rattle.matching.specs.Candidates.{among, folded, typeEvents}
-use Rattle.matching.proofs.Events.{no-candidate, a-candidate}
+use Rattle.matching.proofs.Events.{no-candidate, a-candidate, own-fold}
 use Rattle.matching.proofs.Folding.{Folding, folding-first, folding-over, pass-next, pass-end, keep-next, keep-end, halt}
 use Rattle.matching.proofs.type_matches.Statement.{statement}
 use Rattle.matching.proofs.type_matches.Tie as tie
 
 abbrev Inv-loop : tie.InvT-loop
-Inv-loop local ltable lbtf target ttable tbtf kind own name typ kept₀ id₀ id-end kept id =
-    Folding (among (tabView target ttable tbtf) own name (typeEvents (tabView local ltable lbtf) (tabView target ttable tbtf) kind typ)) (tbtf .last) id-end kept id
+Inv-loop local ltable lbtf target ttable tbtf relo own name kept₀ id₀ id-end kept id =
+    Folding (among (tabView target ttable tbtf) own name (typeEvents (tabView local ltable lbtf) (tabView target ttable tbtf) (relo .kind) (relo .typ))) (tbtf .last) id-end (folded (tabView local ltable lbtf) (tabView target ttable tbtf) relo (typeEvents (tabView local ltable lbtf) (tabView target ttable tbtf) (relo .kind) (relo .typ))) kept id
 
 abbrev μ-loop : tie.MeasureT-loop
-μ-loop local ltable lbtf target ttable tbtf kind own name typ kept₀ id₀ id-end kept id = id-end - id
+μ-loop local ltable lbtf target ttable tbtf relo own name kept₀ id₀ id-end kept id = id-end - id
 
 loop-holds : tie.Need-loop-holds Inv-loop μ-loop
-loop-holds c = folding-first _ _ (omega arith)
+loop-holds c = folding-first _ _ (omega arith) (own-fold _ _ (c .before .before .before .before .before .before .args .relo) (c .before .kind-of .ensures) (c .type-name .ensures) _)
 
 loop-again : tie.Need-loop-again Inv-loop μ-loop
 loop-again c = pass-next (c .before .before .before .before .loop .inv) (c .before .before .before .loop-test .taken) (no-candidate _ _ _ _ _ (c .before .before .is-candidate .ensures) (not-true _ (c .before .if1 .taken))) (c .if2 .taken)
@@ -30,7 +30,6 @@ keep-requires : tie.Need-keep-requires Inv-loop μ-loop
 keep-requires c κs = omega (arith, (c .before .before .before .before .before .before .before .loop .inv .few), (c .before .before .before .before .before .before .before .loop .inv .fits), (c .before .before .before .before .before .before .loop-test .taken))
 
 returns : tie.Need-returns Inv-loop μ-loop
-unfolding folded
 returns c = halt (c .before .before .before .before .before .before .before .loop .inv) (c .before .before .before .before .before .before .loop-test .taken) (a-candidate _ _ _ _ _ (c .before .before .before .before .before .is-candidate .ensures) (not-false _ (c .before .before .before .before .if1 .left)) ∙ sym (c .before .before .before .type-event .ensures) ∙ (c .before .event2 .given .1))
 
 loop-again-2 : tie.Need-loop-again-2 Inv-loop μ-loop
@@ -41,15 +40,12 @@ loop-again-2 c =
     (c .before .match .came)
 
 returns-2 : tie.Need-returns-2 Inv-loop μ-loop
-unfolding folded
 returns-2 c = folding-over (c .before .loop .inv) (c .loop-test .left)
 
 returns-3 : tie.Need-returns-3 Inv-loop μ-loop
-unfolding folded
 returns-3 c = pass-end (c .before .before .before .before .loop .inv) (c .before .before .before .loop-test .taken) (no-candidate _ _ _ _ _ (c .before .before .is-candidate .ensures) (not-true _ (c .before .if1 .taken))) (c .if2 .left)
 
 returns-4 : tie.Need-returns-4 Inv-loop μ-loop
-unfolding folded
 returns-4 c =
     ⊎-elim
     (λ w. rw (w .2) (pass-end (c .before .before .before .before .before .before .loop .inv) (c .before .before .before .before .before .loop-test .taken) (a-candidate _ _ _ _ _ (c .before .before .before .before .is-candidate .ensures) (not-false _ (c .before .before .before .if1 .left)) ∙ sym (c .before .before .type-event .ensures) ∙ w .1 .given .1) (c .if3 .left)))
@@ -62,6 +58,8 @@ type-matches-spec =
     (tie.spec
     Inv-loop
     μ-loop
+    (λ c κs. search needs)
+    (λ c κs. search needs)
     loop-holds
     (λ c κs. search needs)
     (λ c. search needs)
