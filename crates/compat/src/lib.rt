@@ -164,10 +164,9 @@ fn types_within(
     if own == 0 {
         return Compat::Broken;
     }
-    let s = types_step(local, ltable, lbtf, target, ttable, tbtf, a, b);
     let left = left - 1;
     let own = own - 1;
-    match s {
+    match types_step(local, ltable, lbtf, target, ttable, tbtf, a, b) {
         Step::Done(c) => c,
         Step::Down(i, j) => {
             let u = ref_of(local, ltable, lbtf, i);

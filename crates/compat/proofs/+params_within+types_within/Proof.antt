@@ -135,14 +135,14 @@ types-within-returns-3 t c =
     let b5 = b3 .before .before in
     let b6 = b5 .before in
     let b7 = b6 .before in
-    step-params _ _ _ _ _ _ (b7 .if1 .left) (b6 .if2 .left) _ (b5 .types-step .ensures) (b3 .s3 .given .1) (c .before .params-within .ensures) (c .match2 .keys2)
+    step-params _ _ _ _ _ _ (b7 .if1 .left) (b6 .if2 .left) _ (b5 .types-step .ensures) (b3 .i2 .given .1) (c .before .params-within .ensures) (c .match2 .keys2)
 
 types-within-returns-4 : (t : ℕ) → types-within-lts.Need-returns-4 (cl-types-within t) (types-within-at t) types-within.Post
 types-within-returns-4 t c =
     let b3 = c .before .before .before in
     let b4 = b3 .before in
     let b5 = b4 .before in
-    step-done _ _ _ _ _ _ (b5 .if1 .left) (b4 .if2 .left) _ (b3 .types-step .ensures) (c .before .s .given .1)
+    step-done _ _ _ _ _ _ (b5 .if1 .left) (b4 .if2 .left) _ (b3 .types-step .ensures) (c .before .c .given .1)
 
 types-within-returns-5 : (t : ℕ) → types-within-lts.Need-returns-5 (cl-types-within t) (types-within-at t) types-within.Post
 types-within-returns-5 t c =
@@ -150,7 +150,7 @@ types-within-returns-5 t c =
     let b6 = b4 .before .before in
     let b7 = b6 .before in
     let b8 = b7 .before in
-    step-down _ _ _ _ _ _ (b8 .if1 .left) (b7 .if2 .left) _ (b6 .types-step .ensures) (c .before .before .ref-of .ensures) (c .before .ref-of2 .ensures) (c .types-within .ensures) (b4 .s2 .given .1)
+    step-down _ _ _ _ _ _ (b8 .if1 .left) (b7 .if2 .left) _ (b6 .types-step .ensures) (c .before .before .ref-of .ensures) (c .before .ref-of2 .ensures) (c .types-within .ensures) (b4 .i .given .1)
 
 types-within-returns-6 : (t : ℕ) → types-within-lts.Need-returns-6 (cl-types-within t) (types-within-at t) types-within.Post
 types-within-returns-6 t c =
@@ -160,7 +160,7 @@ types-within-returns-6 t c =
     let b9 = b7 .before .before in
     let b10 = b9 .before in
     let b11 = b10 .before in
-    step-return _ _ _ _ _ _ (b11 .if1 .left) (b10 .if2 .left) _ (b9 .types-step .ensures) (c .before .before .ref-of3 .ensures) (c .before .ref-of4 .ensures) (c .types-within2 .ensures) (b7 .s3 .given .1) (b5 .params-within .ensures) (b3 .enum-told .given .1)
+    step-return _ _ _ _ _ _ (b11 .if1 .left) (b10 .if2 .left) _ (b9 .types-step .ensures) (c .before .before .ref-of3 .ensures) (c .before .ref-of4 .ensures) (c .types-within2 .ensures) (b7 .i2 .given .1) (b5 .params-within .ensures) (b3 .enum-told .given .1)
 
 pub +params-within+types-within-spec : {M : Type 1} → statement M
 +params-within+types-within-spec =
@@ -187,9 +187,9 @@ pub +params-within+types-within-spec : {M : Type 1} → statement M
     types-within.Post
     (types-within-returns t)
     (types-within-returns-2 t)
+    (λ c. search needs)
+    (λ c. search needs)
     (λ c κs. search needs)
-    (λ c. search needs)
-    (λ c. search needs)
     (λ c. search needs)
     (λ c. search needs)
     (λ c κs. search needs)
