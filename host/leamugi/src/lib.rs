@@ -78,15 +78,15 @@ impl Btf {
     ///
     /// Bytes that document 01's section 4 refuses, or that are over a limit.
     pub fn read(bytes: Vec<u8>) -> Result<Btf, BtfRefusal> {
-        let mut table = Vec::new();
-        let mut said = ffi::read(&bytes, &mut table);
-        if said.number == 3 {
-            // The table's length is what the first call asked for: types and one.
-            table = vec![0; said.numbers[0] as usize];
-            said = ffi::read(&bytes, &mut table);
-        }
+        // A type takes at least 12 bytes, so the table is never too short.
+        let mut table = vec![0; bytes.len() / 12 + 1];
+        let said = ffi::read(&bytes, &mut table);
         match said.number {
-            0 => Ok(Btf { bytes, table, numbers: said.numbers }),
+            0 => {
+                table.truncate(said.numbers[4] as usize + 1);
+                table.shrink_to_fit();
+                Ok(Btf { bytes, table, numbers: said.numbers })
+            }
             2 => Err(BtfRefusal::OverLimit),
             _ => Err(BtfRefusal::Bad { id: said.numbers[0] as u32 }),
         }
