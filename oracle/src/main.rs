@@ -8,13 +8,17 @@ use std::{
     process::ExitCode,
 };
 
-use oracle::{Case, compare, differences, fixed, hand, limits, list, made, reading, run, section4, section8, stats, timing};
+use oracle::{
+    Case, compare, differences, fixed, hand, limits, list, made, made::kernel::Kernel, reading, run, section4, section8, stats, timing,
+};
 
 const USAGE: &str = "\
 oracle run FILE...                       blocks of case files, of lists, of folders of case files
 oracle gen SEED COUNT DIR                made cases as case files
 oracle batch SEED COUNT LIST BLOCKS      made cases as one list, their blocks as one text
-oracle stats [SEED COUNT]                the histogram of answers (1 20000)
+oracle stats [SEED COUNT | PATH]         the histogram of answers, of made cases (1 20000) or of a path's
+oracle kernel TARGET SEED COUNT DIR [FROM]   made cases against a kernel's BTF, the program's types cut from FROM (TARGET)
+oracle pack LOCAL TARGET INSNS RECORDS FILE  those files as one case file, section offset 0
 oracle fixed DIR                         makes the fixed lists
 oracle check LIST...                     runs a list's cases again and compares with its blocks
 oracle hand DIR                          the hand-made cases as case files
@@ -34,7 +38,11 @@ fn main() -> ExitCode {
         ["gen", seed, count, dir] => generate(seed, count, dir),
         ["batch", seed, count, list, blocks] => batch(seed, count, list, blocks),
         ["stats"] => histogram("1", "20000"),
+        ["stats", path] => histogram_of(path),
         ["stats", seed, count] => histogram(seed, count),
+        ["kernel", target, seed, count, dir] => kernel_cases(target, seed, count, dir, target),
+        ["kernel", target, seed, count, dir, from] => kernel_cases(target, seed, count, dir, from),
+        ["pack", local, target, insns, records, file] => pack(local, target, insns, records, file),
         ["fixed", dir] => make_fixed(dir),
         ["check", files @ ..] => check(files),
         ["hand", dir] => write_cases(dir, hand::cases()),
@@ -81,21 +89,26 @@ fn files_of(path: &str) -> io::Result<Vec<PathBuf>> {
     Ok(files)
 }
 
+/// The cases of a file, each with its name; none where it is neither a case file nor a list.
+fn cases_of(file: &Path) -> io::Result<Vec<(String, Case)>> {
+    let (bytes, name) = (fs::read(file)?, file.display().to_string());
+    Ok(match (Case::unpack(&bytes), list::unpack(&bytes)) {
+        (Some(case), _) => vec![(name, case)],
+        (None, Some(entries)) => entries.into_iter().zip(0..).map(|(e, n)| (format!("{name}#{n}"), e.case)).collect(),
+        (None, None) => Vec::new(),
+    })
+}
+
 fn run_files(paths: &[&str]) -> Done {
     let mut out = BufWriter::new(io::stdout().lock());
     let mut good = true;
     for path in paths {
         for file in files_of(path)? {
-            let (bytes, name) = (fs::read(&file)?, file.display().to_string());
-            let cases = match (Case::unpack(&bytes), list::unpack(&bytes)) {
-                (Some(case), _) => vec![(name, case)],
-                (None, Some(entries)) => entries.into_iter().zip(0..).map(|(e, n)| (format!("{name}#{n}"), e.case)).collect(),
-                (None, None) => {
-                    writeln!(out, "case={name}\nbad case file\nend")?;
-                    good = false;
-                    continue;
-                }
-            };
+            let cases = cases_of(&file)?;
+            if cases.is_empty() {
+                writeln!(out, "case={}\nbad case file\nend", file.display())?;
+                good = false;
+            }
             for (name, case) in cases {
                 good &= print_block(&mut out, &name, &case)?;
             }
@@ -124,6 +137,22 @@ fn generate(seed: &str, count: &str, dir: &str) -> Done {
     write_cases(dir, (0..count).map(|i| (format!("{i:07}"), made::case(seed, i))))
 }
 
+/// Case files named by seed and number.
+fn kernel_cases(target: &str, seed: &str, count: &str, dir: &str, from: &str) -> Done {
+    let (seed, count) = numbers(seed, count)?;
+    let target = fs::read(target)?;
+    let refused = || io::Error::other(format!("{from}: section 4 refuses it, or it names no type"));
+    let from = Kernel::read(&fs::read(from)?).ok_or_else(refused)?;
+    write_cases(dir, (0..count).map(|i| (format!("{seed}-{i:04}"), made::kernel::case(&from, &target, seed, i))))
+}
+
+fn pack(local: &str, target: &str, insns: &str, records: &str, file: &str) -> Done {
+    let case =
+        Case { local: fs::read(local)?, target: fs::read(target)?, insns: fs::read(insns)?, records: fs::read(records)?, section: 0 };
+    fs::write(file, case.pack())?;
+    Ok(true)
+}
+
 fn batch(seed: &str, count: &str, list: &str, blocks: &str) -> Done {
     let (seed, count) = numbers(seed, count)?;
     let (mut list, mut blocks) = (BufWriter::new(File::create(list)?), BufWriter::new(File::create(blocks)?));
@@ -143,12 +172,23 @@ fn batch(seed: &str, count: &str, list: &str, blocks: &str) -> Done {
 
 fn histogram(seed: &str, count: &str) -> Done {
     let (seed, count) = numbers(seed, count)?;
-    let histogram = stats::made(seed, count, true);
-    print!("{}", histogram.print());
-    histogram.faults.iter().take(20).for_each(|fault| eprintln!("self-check: {fault}"));
+    let histogram = stats::over((0..count).map(|i| made::case(seed, i)));
+    let good = print_histogram(&histogram);
     let short = histogram.short();
     short.iter().for_each(|row| println!("too seldom: {row}"));
-    Ok(histogram.faults.is_empty() && (short.is_empty() || count < stats::DEMAND.0))
+    Ok(good && (short.is_empty() || count < stats::DEMAND.0))
+}
+
+fn print_histogram(histogram: &stats::Histogram) -> bool {
+    print!("{}", histogram.print());
+    histogram.faults.iter().take(20).for_each(|fault| eprintln!("self-check: {fault}"));
+    histogram.faults.is_empty()
+}
+
+/// Of a case file, a list or a folder.
+fn histogram_of(path: &str) -> Done {
+    let cases: Vec<_> = files_of(path)?.iter().map(|file| cases_of(file)).collect::<io::Result<Vec<_>>>()?;
+    Ok(print_histogram(&stats::over(cases.into_iter().flatten().map(|(_, case)| case))))
 }
 
 fn make_fixed(dir: &str) -> Done {

@@ -27,10 +27,10 @@ pub struct Accepted {
 }
 
 /// A type's place in the bytes.
-struct Entry {
-    at: usize,
-    kind: u32,
-    count: usize,
+pub struct Place {
+    pub at: usize,
+    pub kind: u32,
+    pub count: usize,
 }
 
 /// Bytes after a type's first twelve, by kind and list length.
@@ -78,8 +78,15 @@ pub fn read(bytes: &[u8]) -> Result<Accepted, Fault> {
     Ok(found)
 }
 
+/// The types' places and the strings of a BTF that is accepted.
+pub fn places(bytes: &[u8]) -> Option<(Vec<Place>, &[u8])> {
+    read(bytes).ok()?;
+    let (types, strings) = header(bytes)?;
+    Some((entries(bytes, types).ok()?, &bytes[strings.0..strings.1]))
+}
+
 /// Each type in turn, until the section is filled.
-fn entries(bytes: &[u8], (start, end): (usize, usize)) -> Result<Vec<Entry>, Fault> {
+fn entries(bytes: &[u8], (start, end): (usize, usize)) -> Result<Vec<Place>, Fault> {
     let mut entries = Vec::new();
     let mut at = start;
     while at < end {
@@ -94,7 +101,7 @@ fn entries(bytes: &[u8], (start, end): (usize, usize)) -> Result<Vec<Entry>, Fau
     Ok(entries)
 }
 
-fn entry(bytes: &[u8], at: usize, end: usize) -> Option<Entry> {
+fn entry(bytes: &[u8], at: usize, end: usize) -> Option<Place> {
     if end - at < TYPE {
         return None;
     }
@@ -104,7 +111,7 @@ fn entry(bytes: &[u8], at: usize, end: usize) -> Option<Entry> {
         return None;
     }
     let encoded = kind == 1 && !is_encoding(word(bytes, at + TYPE));
-    (!encoded).then_some(Entry { at, kind, count })
+    (!encoded).then_some(Place { at, kind, count })
 }
 
 /// At most one of bits 24, 25 and 26, and bit 27 is 0.
@@ -113,7 +120,7 @@ fn is_encoding(extra: u32) -> bool {
 }
 
 /// Names and type ids of one type.
-fn references(bytes: &[u8], strings: &[u8], entry: &Entry, found: &mut Accepted) -> Option<()> {
+fn references(bytes: &[u8], strings: &[u8], entry: &Place, found: &mut Accepted) -> Option<()> {
     let at = |i: usize| word(bytes, entry.at + TYPE + i);
     let third = word(bytes, entry.at + 8);
     let mut names = vec![word(bytes, entry.at)];

@@ -4,7 +4,7 @@ use std::collections::BTreeMap;
 
 use under_test::probe::Reply;
 
-use crate::{made, run, run::number};
+use crate::{Case, run, run::number};
 
 /// Over so many made cases each answer that the crate has comes so often.
 pub const DEMAND: (u64, u64) = (20_000, 50);
@@ -62,11 +62,9 @@ impl Histogram {
     }
 }
 
-/// Over made cases.
-pub fn made(seed: u64, count: u64, checked: bool) -> Histogram {
+/// Over cases, with self-checks.
+pub fn over(cases: impl Iterator<Item = Case>) -> Histogram {
     let mut histogram = Histogram::default();
-    for index in 0..count {
-        histogram.add(&run::run(&made::case(seed, index), checked));
-    }
+    cases.for_each(|case| histogram.add(&run::run(&case, true)));
     histogram
 }

@@ -1,6 +1,7 @@
 //! Made cases: case `i` of a seed depends on the seed and on `i` alone.
 
 pub mod bytes;
+pub mod kernel;
 mod records;
 pub mod rng;
 mod soup;

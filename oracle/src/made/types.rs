@@ -11,6 +11,7 @@ pub const ENUM: u32 = 6;
 pub const FWD: u32 = 7;
 pub const TYPEDEF: u32 = 8;
 pub const CONST: u32 = 10;
+pub const FUNC: u32 = 12;
 pub const PROTO: u32 = 13;
 pub const VAR: u32 = 14;
 pub const DATASEC: u32 = 15;

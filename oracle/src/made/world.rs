@@ -36,7 +36,7 @@ pub type World = Vec<Decl>;
 const FIELD_NAMES: [&str; 8] = ["a", "b", "c", "d", "e", "x", "y", "pid"];
 const VARIANT_NAMES: [&str; 6] = ["A", "B", "C", "D", "MAX", "___E"];
 const TYPE_NAMES: [&str; 7] = ["s", "t", "u", "task", "file", "in", "w"];
-const FLAVOURS: [&str; 6] = ["___v1", "___v2", "___", "____x", "___v1___v2", "__y"];
+pub const FLAVOURS: [&str; 6] = ["___v1", "___v2", "___", "____x", "___v1___v2", "__y"];
 
 pub fn int(rng: &mut Rng) -> Shape {
     let (name, size, encoding) = rng.pick(&[
