@@ -94,7 +94,7 @@ pub fn wanted(rng: &mut Rng, cut: &Cut, roots: &[u32]) -> Wanted {
     let variants = suits.filter(|ty| ty.is_enum() && !ty.entries.is_empty()).map_or(0, |ty| ty.entries.len());
     let (kind, access) = match () {
         () if variants > 0 && rng.chance(70) => (rng.pick(&[10, 11, 11]), rng.below(variants)),
-        () if asked => (rng.pick(&[6, 7, 8, 8, 9]), 0),
+        () if asked => (rng.pick(&[6, 6, 7, 8, 8, 8, 8, 9]), 0),
         // The target may well have none of that name, and then an id or a size is refused.
         () => (rng.pick(&[6, 8, 8, 8, 8, 9]), 0),
     };
