@@ -1,14 +1,24 @@
-//! Links Debian's static libbpf where it is asked for: the archive, because its search is not exported by the shared library.
+//! Links what is asked for beside our library: Debian's static libbpf (the archive, because its search is not exported by the shared
+//! library), and an earlier library of ours.
 use std::env;
 
 fn main() {
-    println!("cargo:rerun-if-env-changed=LIBBPF_DIR");
-    if env::var_os("CARGO_FEATURE_LIBBPF").is_none() {
-        return;
+    if linked("LIBBPF", "bpf") {
+        println!("cargo:rustc-link-lib=elf");
+        println!("cargo:rustc-link-lib=z");
     }
-    let folder = env::var("LIBBPF_DIR").expect("LIBBPF_DIR names the folder of libbpf.a");
+    linked("EARLIER", "earlier");
+}
+
+/// Links the archive of a feature from the folder that a variable names; whether the feature is on.
+fn linked(feature: &str, archive: &str) -> bool {
+    println!("cargo:rerun-if-env-changed={feature}_DIR");
+    if env::var_os(format!("CARGO_FEATURE_{feature}")).is_none() {
+        return false;
+    }
+    let folder = env::var(format!("{feature}_DIR")).expect("the folder of the archive is named");
+    println!("cargo:rerun-if-changed={folder}/lib{archive}.a");
     println!("cargo:rustc-link-search=native={folder}");
-    println!("cargo:rustc-link-lib=static=bpf");
-    println!("cargo:rustc-link-lib=elf");
-    println!("cargo:rustc-link-lib=z");
+    println!("cargo:rustc-link-lib=static={archive}");
+    true
 }

@@ -16,6 +16,8 @@ const LIBBPF: &str = "libbpf, `btf__new`, `btf__free`";
 /// Times reading and prints the table and the aims.
 pub fn bench(bytes: &[u8], types: u32) {
     let mut table = vec![0; types as usize + 1];
+    #[cfg(feature = "earlier")]
+    let mut other = table.clone();
     let mut copy = vec![0; bytes.len()];
     let mut ways = vec![
         Way::new(FLOOR, || black_box(&mut copy[..]).copy_from_slice(black_box(bytes))),
@@ -23,6 +25,10 @@ pub fn bench(bytes: &[u8], types: u32) {
         Way::new(WHOLE, || drop(black_box(Btf::read(black_box(bytes).to_vec()).expect("was read before")))),
         Way::new(CRATE, || drop(black_box(timing::Read::new(black_box(bytes)).expect("the crate reads what we read")))),
     ];
+    #[cfg(feature = "earlier")]
+    ways.push(Way::new("ours of before, `leamugi_read`, table lent", || {
+        assert!(crate::ours::earlier_into(black_box(bytes), black_box(&mut other)))
+    }));
     ways.extend(libbpf::reading(LIBBPF, bytes));
     let taken = measured(ways);
     print_table("reading", &taken, LENT, ("ns a type", f64::from(types)));
