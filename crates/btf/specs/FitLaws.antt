@@ -13,8 +13,9 @@ use Rattle.kinds.specs.Types.{typeAt, typeBytes, after}
 use Rattle.btf.specs.declared.Step.the-variants.{Next, Fault as Off}
 use Rattle.btf.specs.declared.Scan.{Scan}
 use Rattle.btf.specs.declared.Scan.the-variants.{Count, Fault as Stop, Over as Many}
-use Rattle.btf.specs.Accept.{stepAt, scan, fits, unfit, firstOr, thenFits}
+use Rattle.btf.specs.Accept.{scan, fits, unfit, firstOr, thenFits}
 use Rattle.btf.specs.declared.Reach.{Reach}
+use Rattle.btf.specs.Step.{stepAt}
 use Rattle.btf.specs.Tests.{and-false, and-l, and-r}
 use Rattle.btf.specs.ScanLaws.{told-next, Scanned, scanned-first, scanned-next, scanned-fault, scanned-many, scanned-end, Walking, walking-first, walking-next}
 use Rattle.btf.specs.Reach.{larger, reach, reachOf, within}
@@ -75,21 +76,21 @@ surveyed-first most t = record { scanned = scanned-first most t; skip = λ room 
 
 module _ {most : ℕ} {t : List ℕ} {far top at n : ℕ} (i : Surveyed most t far top at n) where
   module _ (h : at < length t) (m : n ≡ most → ⊥) where
-    pub surveyed-less : {x : ℕ} → Next x ≡ stepAt t at → length t - x < length t - at
+    pub surveyed-less : {x f g : ℕ} → Next x f g ≡ stepAt t at → length t - x < length t - at
     surveyed-less p = scanned-next (i .scanned) h m p .1
 
-    pub surveyed-next : {x f g : ℕ} (r : Reach) → Next x ≡ stepAt t at → r ≡ reachOf (typeAt t at) → f ≡ larger far (r .far) → g ≡ larger top (r .top)
-        → Surveyed most t f g x (n + 1)
+    pub surveyed-next : {x a b f g : ℕ} → Next x a b ≡ stepAt t at → f ≡ larger far a → g ≡ larger top b → Surveyed most t f g x (n + 1)
     unfolding unfit
-    surveyed-next {x} {f} {g} r p q ef eg = record { scanned = scanned-next (i .scanned) h m p .0; skip = skips }
+    surveyed-next {x} {a} {b} {f} {g} p ef eg = record { scanned = scanned-next (i .scanned) h m p .0; skip = skips }
       where
         fit-one : (room last : ℕ) → within room last (reach f g) ≡ true → (far < room) × (top ≤ last) × (fits room last (typeAt t at) ≡ true)
         fit-one room last w =
-            let a : ltb far room && ltb (r .far) room ≡ true = sym (larger-ltb far (r .far) room) ∙ rw (← ef) (and-l _ _ w) in
-            let b : leb top last && leb (r .top) last ≡ true = sym (larger-leb top (r .top) last) ∙ rw (← eg) (and-r (ltb f room) _ w) in (
-              ltb-true far room (and-l _ _ a),
-              leb-true top last (and-l _ _ b),
-              type-fits room last (typeAt t at) ∙ ap (within room last) (sym q) ∙ rw (and-r (ltb far room) _ a, and-r (leb top last) _ b),
+            let c : ltb far room && ltb a room ≡ true = sym (larger-ltb far a room) ∙ rw (← ef) (and-l _ _ w) in
+            let d : leb top last && leb b last ≡ true = sym (larger-leb top b last) ∙ rw (← eg) (and-r (ltb f room) _ w) in
+            let q : reach a b ≡ reachOf (typeAt t at) = told-next t at p .2 in (
+              ltb-true far room (and-l _ _ c),
+              leb-true top last (and-l _ _ d),
+              type-fits room last (typeAt t at) ∙ ap (within room last) (sym q) ∙ rw (and-r (ltb far room) _ c, and-r (leb top last) _ d),
             )
 
         skips : (room last k : ℕ) → f < room → g ≤ last → unfit t room last (n + 1 + k) 0 0 ≡ unfit t room last k x (n + 1)

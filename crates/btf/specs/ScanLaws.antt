@@ -9,15 +9,17 @@ use native.Mathlib.Nat.{sub-zero}
 use native.Mathlib.Decide.{decLt}
 use lib.ListN.{length}
 use lib.Dec.{leb, ltb, eqb}
-use borrow.Author.Tests.{lt-ltb, le-ltb, le-leb, lt-leb, leb-true, eq-eqb, ne-eqb}
+use borrow.Author.Tests.{lt-ltb, le-ltb, leb-true, eq-eqb, ne-eqb}
 use Rattle.words.specs.Num.{word}
 use Rattle.kinds.specs.Kinds.{isKind, encodes, hasType, extraBytes}
 use Rattle.kinds.specs.Types.{kindAt, extraAt, typeAt, typeBytes, after}
 use Rattle.btf.specs.declared.Step.the-variants.{Next, Fault as Off}
 use Rattle.btf.specs.declared.Scan.{Scan}
 use Rattle.btf.specs.declared.Scan.the-variants.{Count, Fault as Stop, Over as Many}
-use Rattle.btf.specs.Accept.{encodingFine, good, stepAt, scan}
-use Rattle.btf.specs.Tests.{and-false, and-l, and-r}
+use Rattle.btf.specs.Accept.{encodingFine, good, scan}
+use Rattle.btf.specs.Reach.{reach, reachOf}
+use Rattle.btf.specs.Step.{stepAt}
+use Rattle.btf.specs.Tests.{and-l, and-r}
 
 -- a type takes twelve bytes at least
 pub least : (t : List ℕ) (at : ℕ) → 12 ≤ typeBytes t at
@@ -31,10 +33,6 @@ module _ (t : List ℕ) (at : ℕ) {k : ℕ} (e : k ≡ typeAt t at .kind) where
   kind-there = sym e
 
   module _ (h : k ≡ 1) where
-    pub int-room : at + 16 ≤ after t at
-    unfolding typeBytes extraBytes
-    int-room = rw (kind-there, h) (omega arith)
-
     pub int-word : {x : ℕ} → x ≡ word t (at + 12) → x ≡ typeAt t at .extra
     unfolding typeAt extraAt extraBytes
     int-word p = p ∙ rw (kind-there, h)
@@ -62,60 +60,24 @@ module _ (t : List ℕ) (at : ℕ) {k : ℕ} (e : k ≡ typeAt t at .kind) where
 
 -- one type
 module _ (t : List ℕ) (at : ℕ) where
-  bad : good t at ≡ false → Off ≡ stepAt t at
-  unfolding stepAt
-  bad h = rw h
-
-  pub step-short : length t < at + 12 → Off ≡ stepAt t at
-  unfolding good
-  step-short h = bad (rw (lt-leb (at + 12) (length t) h))
-
-  module _ {k : ℕ} (e : k ≡ typeAt t at .kind) where
-    kind-is : kindAt t at ≡ k
-    unfolding typeAt
-    kind-is = sym e
-
-    pub step-zero : k ≡ 0 → Off ≡ stepAt t at
-    unfolding good isKind
-    step-zero h = bad (rw (kind-is, h, and-false))
-
-    pub step-high : 19 < k → Off ≡ stepAt t at
-    unfolding good isKind
-    step-high h = bad (rw (kind-is, lt-leb k 19 h) (simp and-false))
-
-    pub known : (k ≡ 0 → ⊥) → k ≤ 19 → isKind (kindAt t at) ≡ true
-    unfolding isKind
-    known n h = rw (kind-is, le-leb 1 k (omega arith), le-leb k 19 h)
-
-  pub step-long : length t < after t at → Off ≡ stepAt t at
-  unfolding good
-  step-long h = bad (rw (lt-leb (after t at) (length t) h) (simp and-false))
-
-  pub step-int : {b : Bool} → b ≡ encodingFine (typeAt t at) → b ≡ false → Off ≡ stepAt t at
-  unfolding good
-  step-int e h = let q : encodingFine (typeAt t at) ≡ false = sym e ∙ h in bad (rw q (simp and-false))
-
-  pub step-next : {x : ℕ} {b : Bool} → x ≡ typeBytes t at → at + 12 ≤ length t → isKind (kindAt t at) ≡ true → after t at ≤ length t
-      → b ≡ encodingFine (typeAt t at) → b ≡ true → Next (at + x) ≡ stepAt t at
-  unfolding stepAt good
-  step-next q a k c e h =
-      let f : encodingFine (typeAt t at) ≡ true = sym e ∙ h in
-      rw (le-leb (at + 12) (length t) a, k, le-leb (after t at) (length t) c, f, q)
-
   -- what a step tells
-  pub told-next : {x : ℕ} → Next x ≡ stepAt t at → (good t at ≡ true) × (x ≡ after t at)
+  pub told-next : {x f g : ℕ} → Next x f g ≡ stepAt t at → (good t at ≡ true) × (x ≡ after t at) × (reach f g ≡ reachOf (typeAt t at))
   unfolding stepAt
-  told-next {x} = go (good t at)
+  told-next {x} {f} {g} = go (good t at)
     where
-      go : (b : Bool) → Next x ≡ cond b (Next (after t at)) Off → (b ≡ true) × (x ≡ after t at)
-      go true h = (refl, cc)
-      go false h = (cc, cc)
+      go : (b : Bool) → Next x f g ≡ cond b (Next (after t at) (reachOf (typeAt t at) .far) (reachOf (typeAt t at) .top)) Off
+          → (b ≡ true) × (x ≡ after t at) × (reach f g ≡ reachOf (typeAt t at))
+      go true h =
+          let p : f ≡ reachOf (typeAt t at) .far = cc in
+          let q : g ≡ reachOf (typeAt t at) .top = cc in
+          (refl, cc, rw (p, q))
+      go false h = let y : _≡_ {A = ℕ} 0 1 = cc in absurd (omega arith)
 
   pub told-fault : Off ≡ stepAt t at → good t at ≡ false
   unfolding stepAt
   told-fault = go (good t at)
     where
-      go : (b : Bool) → Off ≡ cond b (Next (after t at)) Off → b ≡ false
+      go : (b : Bool) → Off ≡ cond b (Next (after t at) (reachOf (typeAt t at) .far) (reachOf (typeAt t at) .top)) Off → b ≡ false
       go true h = cc
       go false h = refl
 
@@ -184,9 +146,9 @@ pub scanned-first : (most : ℕ) (t : List ℕ) → Scanned most t 0 0
 scanned-first most t = record { few = omega arith; high = omega arith; same = rw sub-zero }
 
 module _ {most : ℕ} {t : List ℕ} {at n : ℕ} (i : Scanned most t at n) where
-  pub scanned-next : {x : ℕ} → at < length t → (n ≡ most → ⊥) → Next x ≡ stepAt t at → Scanned most t x (n + 1) × (length t - x < length t - at)
+  pub scanned-next : {x f g : ℕ} → at < length t → (n ≡ most → ⊥) → Next x f g ≡ stepAt t at → Scanned most t x (n + 1) × (length t - x < length t - at)
   scanned-next {x} h m p =
-      let q : (good t at ≡ true) × (x ≡ after t at) = told-next t at p in
+      let q = told-next t at p in
       let g : after t at ≤ length t = good-fits t at (q .0) in (
         record {
           few = omega (arith, i .few);

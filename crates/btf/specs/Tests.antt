@@ -8,6 +8,10 @@ pub and-false : (x : Bool) → x && false ≡ false
 and-false true = refl
 and-false false = refl
 
+pub and-true : (x : Bool) → x && true ≡ x
+and-true true = refl
+and-true false = refl
+
 pub and-l : (a b : Bool) → a && b ≡ true → a ≡ true
 and-l true b h = refl
 and-l false b h = h

@@ -5,7 +5,7 @@ use mathlib.Core.Path.{sym, _∙_}
 use Prim.Native.Nat.{_-_}
 use lib.ListN.{length}
 use Rattle.btf.specs.Limits.{maxTypes}
-use Rattle.btf.specs.Laws.{good-fits, told-next, Surveyed, surveyed-first, surveyed-many, surveyed-fault, surveyed-less, surveyed-next, surveyed-walks, surveyed-reached, surveyed-end}
+use Rattle.btf.specs.Laws.{Surveyed, surveyed-first, surveyed-many, surveyed-fault, surveyed-less, surveyed-next, surveyed-walks, surveyed-reached, surveyed-end}
 use borrow.Author.Needs.{needs}
 use Rattle.btf.proofs.survey.Statement.{statement}
 use Rattle.btf.proofs.survey.Tie as tie
@@ -25,26 +25,23 @@ returns c = surveyed-many (c .before .before .loop .inv) _ (c .before .loop-test
 pass-requires : tie.Need-pass-requires Inv-loop μ-loop
 pass-requires c κs = c .before .before .loop .inv .scanned .high
 
-add-t12 : tie.Need-add-t12 Inv-loop μ-loop
-add-t12 c = omega (arith, c .before .before .before .before .before .loop .inv .scanned .few)
+add-t13 : tie.Need-add-t13 Inv-loop μ-loop
+add-t13 c = omega (arith, c .before .before .before .before .before .loop .inv .scanned .few)
 
 returns-2 : tie.Need-returns-2 Inv-loop μ-loop
 returns-2 c =
     surveyed-fault (c .before .before .before .before .before .loop .inv) (c .before .before .before .before .loop-test .taken) (c .before .before .before .if1 .left) _ (sym (c .enum-told .given .1) ∙ c .before .before .pass .ensures)
 
-type-reach-requires : tie.Need-type-reach-requires Inv-loop μ-loop
-type-reach-requires c κs = good-fits _ _ (told-next _ _ (sym (c .before .st .given .1) ∙ c .before .before .before .pass .ensures) .0)
-
 add-n : tie.Need-add-n Inv-loop μ-loop
-add-n c = omega (arith, c .before .before .before .before .before .before .before .before .before .loop .inv .scanned .few)
+add-n c = omega (arith, c .before .before .before .before .before .before .before .before .loop .inv .scanned .few)
 
 loop-less : tie.Need-loop-less Inv-loop μ-loop
 loop-less c =
-    surveyed-less (c .before .before .before .before .before .before .before .before .before .loop .inv) (c .before .before .before .before .before .before .before .before .loop-test .taken) (c .before .before .before .before .before .before .before .if1 .left) (sym (c .before .before .before .before .st .given .1) ∙ c .before .before .before .before .before .before .pass .ensures)
+    surveyed-less (c .before .before .before .before .before .before .before .before .loop .inv) (c .before .before .before .before .before .before .before .loop-test .taken) (c .before .before .before .before .before .before .if1 .left) (sym (c .before .before .before .st .given .1) ∙ c .before .before .before .before .before .pass .ensures)
 
 loop-again : tie.Need-loop-again Inv-loop μ-loop
 loop-again c =
-    surveyed-next (c .before .before .before .before .before .before .before .before .before .loop .inv) (c .before .before .before .before .before .before .before .before .loop-test .taken) (c .before .before .before .before .before .before .before .if1 .left) _ (sym (c .before .before .before .before .st .given .1) ∙ c .before .before .before .before .before .before .pass .ensures) (c .before .before .type-reach .ensures) (c .before .larger-of .ensures) (c .larger-of2 .ensures)
+    surveyed-next (c .before .before .before .before .before .before .before .before .loop .inv) (c .before .before .before .before .before .before .before .loop-test .taken) (c .before .before .before .before .before .before .if1 .left) (sym (c .before .before .before .st .given .1) ∙ c .before .before .before .before .before .pass .ensures) (c .before .larger-of .ensures) (c .larger-of2 .ensures)
 
 settle-requires : tie.Need-settle-requires Inv-loop μ-loop
 settle-requires c κs = (surveyed-walks (c .before .loop .inv) (c .loop-test .left), surveyed-reached (c .before .loop .inv) (c .loop-test .left))
@@ -63,9 +60,8 @@ survey-spec =
     pass-requires
     (λ c. search needs)
     (λ c. search needs)
-    add-t12
+    add-t13
     returns-2
-    type-reach-requires
     (λ c κs. search needs)
     (λ c κs. search needs)
     add-n
