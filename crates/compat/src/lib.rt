@@ -15,7 +15,7 @@ use rules::Resolved;
 use types::is_composite;
 use types::is_enum;
 use types::resolve_type;
-use types::same_flavourless;
+use types::same_named;
 use view::count_of;
 use view::entry_of;
 use view::extra_of;
@@ -280,8 +280,7 @@ fn names_agree(
     ensures { λ r. ⌜ r ≡ namesAgree (tabView (now (local .entry)) (now (ltable .entry)) lbtf) (tabView (now (target .entry)) (now (ttable .entry)) tbtf) i j ⌝ }
 {
     let l = text_of(local, lbtf, name_of(local, ltable, lbtf, i));
-    let t = text_of(target, tbtf, name_of(target, ttable, tbtf, j));
-    if same_flavourless(l, t) {
+    if same_named(l, target, tbtf, name_of(target, ttable, tbtf, j)) {
         Compat::Compatible
     } else {
         Compat::Different

@@ -49,11 +49,11 @@ module _ {f : ℕ → Event} {last n : ℕ} {end s : Matches} {i₀ i : ℕ} {T 
   unfolding variantNamed
   scanning-none h = v .here ∙ rw (drop-of-length-le (T .typ e .entries) {i = j} (omega (arith, v .all)))
 
-  module _ (h : j < m) {x : Entry} {text : List ℕ} {same : Bool} (p : x ≡ entryAt (T .typ e) j) (q : text ≡ T .text (x .name)) (o : same ≡ sameFlavourless name text) where
+  module _ (h : j < m) {x : Entry} {same : Bool} (p : x ≡ entryAt (T .typ e) j) (o : same ≡ sameFlavourless name (T .text (x .name))) where
     turned : f i ≡ variantEvent k (T .typ e) (cond same (some x) (variantNamed (T .text) name (drop (suc j) (T .typ e .entries))))
     turned =
         let g : j < length (T .typ e .entries) = omega (arith, v .all) in
-        v .here ∙ ap (variantEvent k (T .typ e)) (variant-turn (T .text) name (T .typ e) j g) ∙ rw (o, q, p)
+        v .here ∙ ap (variantEvent k (T .typ e)) (variant-turn (T .text) name (T .typ e) j g) ∙ rw (o, p)
 
     pub scanning-found : same ≡ true → f i ≡ Matched 0 (variantWorth k (T .typ e) x)
     scanning-found b = turned ∙ rw b

@@ -17,7 +17,7 @@ use rules::Target;
 use rules::Worth;
 use types::is_enum;
 use types::resolve_type;
-use types::same_flavourless;
+use types::same_named;
 use value::Valued;
 use value::field_value;
 use value::plain_value;
@@ -60,10 +60,7 @@ pub fn is_candidate(
     if kind != kind_of(target, ttable, tbtf, id) {
         return false;
     }
-    same_flavourless(
-        name,
-        text_of(target, tbtf, name_of(target, ttable, tbtf, id)),
-    )
+    same_named(name, target, tbtf, name_of(target, ttable, tbtf, id))
 }
 
 // Two values conflict only where both are there.
@@ -230,7 +227,7 @@ fn enum_matches(
         }
         for k in 0..count_of(target, ttable, tbtf, e) {
             let v = entry_of(target, ttable, tbtf, e, k);
-            if same_flavourless(variant, text_of(target, tbtf, v.name)) {
+            if same_named(variant, target, tbtf, v.name) {
                 let worth = variant_worth(target, ttable, tbtf, relo.kind, e, v);
                 kept = keep(kept, id, 0, worth);
                 continue 'candidates;

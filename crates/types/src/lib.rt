@@ -24,10 +24,13 @@ use view::extra_of;
 use view::kind_of;
 use view::ref_of;
 use view::size_of;
+use words::part;
 ghost use mathlib.Core.Path.{_≡_};
 ghost use mathlib.Core.Bool.{cond, _||_};
 ghost use lib.Dec.{eqb};
 ghost use lib.ListN.{getD, drop};
+ghost use Rattle.btf.specs.Sections.{stringsIn};
+ghost use Rattle.view.specs.Text.{textAt};
 ghost use Rattle.view.specs.View.{tabView};
 ghost use Rattle.rules.specs.Kinds.{ARRAY, isModifier, isComposite, isEnum, hasSize, sizedByRef};
 ghost use Rattle.rules.specs.Types.{resolve, product, sizeOf, isEmpty, sameText, flavourless, sameFlavourless};
@@ -174,19 +177,42 @@ fn ends_at(name: &[u8], i: usize) -> bool
         && (byte_at(name, i + 1) == UNDERSCORE && byte_at(name, i + 2) == UNDERSCORE)
 }
 
-// The same up to the first three underscores of each.
-pub fn same_flavourless(a: &[u8], b: &[u8]) -> bool
-    ensures { λ r. ⌜ r ≡ sameFlavourless (now (a .entry)) (now (b .entry)) ⌝ }
+// Whether the name at a place of the strings has nothing, or a flavour: past the end a byte reads as the zero that ends it.
+fn ends_in(strings: &[u8], at: usize) -> bool
+    ensures { λ r. ⌜ r ≡ isEmpty (flavourless (textAt (now (strings .entry)) at)) ⌝ }
+{
+    let byte = byte_at(strings, at);
+    if byte == 0 {
+        return true;
+    }
+    byte == UNDERSCORE
+        && (byte_at(strings, at + 1) == UNDERSCORE && byte_at(strings, at + 2) == UNDERSCORE)
+}
+
+// A name and the one at a place of the strings, each up to its first three underscores. The first byte that differs ends
+// it: most names differ early, so the other's end is not looked for.
+fn same_in(name: &[u8], strings: &[u8], from: usize) -> bool
+    ensures { λ r. ⌜ r ≡ sameFlavourless (now (name .entry)) (textAt (now (strings .entry)) from) ⌝ }
 {
     let mut i = 0;
-    while !ends_at(a, i) {
-        if ends_at(b, i) {
+    let mut at = from;
+    while !ends_at(name, i) {
+        if ends_in(strings, at) {
             return false;
         }
-        if a[i] != b[i] {
+        if name[i] != strings[at] {
             return false;
         }
         i += 1;
+        at += 1;
     }
-    ends_at(b, i)
+    ends_in(strings, at)
+}
+
+// Whether a name and the one at an offset of the strings are the same but for flavours.
+pub fn same_named(name: &[u8], bytes: &[u8], btf: Btf, offset: u32) -> bool
+    ensures { λ r. ⌜ r ≡ sameFlavourless (now (name .entry)) (textAt (stringsIn (now (bytes .entry)) btf) offset) ⌝ }
+{
+    let z = btf.strings;
+    same_in(name, part(bytes, z.start, z.size), offset as usize)
 }

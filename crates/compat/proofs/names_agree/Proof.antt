@@ -8,22 +8,17 @@ use Rattle.compat.proofs.names_agree.Tie as tie
 returns : tie.Need-returns
 returns c =
     let b3 = c .before .before .before in
-    let b4 = b3 .before in
-    let b5 = b4 .before in
-    sym (rw (← (b5 .name-of .ensures), ← (b4 .text-of .ensures), ← (b3 .name-of2 .ensures), ← (c .before .before .text-of2 .ensures), ← (c .before .same-flavourless .ensures), (c .if1 .taken)))
+    sym (rw (← (b3 .before .name-of .ensures), ← (b3 .text-of .ensures), ← (c .before .before .name-of2 .ensures), ← (c .before .same-named .ensures), (c .if1 .taken)))
 
 returns-2 : tie.Need-returns-2
 returns-2 c =
     let b3 = c .before .before .before in
-    let b4 = b3 .before in
-    let b5 = b4 .before in
-    sym (rw (← (b5 .name-of .ensures), ← (b4 .text-of .ensures), ← (b3 .name-of2 .ensures), ← (c .before .before .text-of2 .ensures), ← (c .before .same-flavourless .ensures), (c .if1 .left)))
+    sym (rw (← (b3 .before .name-of .ensures), ← (b3 .text-of .ensures), ← (c .before .before .name-of2 .ensures), ← (c .before .same-named .ensures), (c .if1 .left)))
 
 pub names-agree-spec : {M : Type 1} → statement M
 names-agree-spec =
     tie.close
     (tie.spec
-    (λ c κs. search needs)
     (λ c κs. search needs)
     (λ c κs. search needs)
     (λ c κs. search needs)

@@ -45,19 +45,19 @@ loop-holds : tie.Need-loop-holds Inv-loop μ-loop Inv-candidates μ-candidates
 loop-holds c = scanning-first _ _ _ _ (c .before .before .before .before .before .before .before .before .before .before .before .candidates .inv) (c .before .before .before .before .before .before .before .before .before .before .candidates-test .taken) (a-candidate _ _ _ _ _ (c .before .before .before .before .before .before .before .before .before .is-candidate .ensures) (not-false _ (c .before .before .before .before .before .before .before .before .if1 .left))) (sym (c .before .before .before .before .before .before .before .resolve-type .ensures) ∙ (c .before .before .before .before .before .e .given .1)) (rw (c .before .before .before .kind-of2 .ensures) at (sym (c .before .before .is-enum .ensures) ∙ not-false _ (c .before .if3 .left))) (c .count-of .ensures)
 
 keep-requires : tie.Need-keep-requires Inv-loop μ-loop Inv-candidates μ-candidates
-keep-requires c κs = omega (arith, (c .before .before .before .before .before .before .loop .inv .fold .few), (c .before .before .before .before .before .before .loop .inv .fold .fits), (c .before .before .before .before .before .before .loop .inv .upto))
+keep-requires c κs = omega (arith, (c .before .before .before .before .before .loop .inv .fold .few), (c .before .before .before .before .before .loop .inv .fold .fits), (c .before .before .before .before .before .loop .inv .upto))
 
 add-id-3 : tie.Need-add-id-3 Inv-loop μ-loop Inv-candidates μ-candidates
-add-id-3 c = omega (arith, (c .before .before .before .before .before .before .before .before .loop .inv .fold .fits), (c .if6 .taken))
+add-id-3 c = omega (arith, (c .before .before .before .before .before .before .before .loop .inv .fold .fits), (c .if6 .taken))
 
 candidates-less-3 : tie.Need-candidates-less-3 Inv-loop μ-loop Inv-candidates μ-candidates
-candidates-less-3 c = omega (arith, (c .if6 .taken), (c .before .before .before .before .before .before .before .before .loop .inv .same))
+candidates-less-3 c = omega (arith, (c .if6 .taken), (c .before .before .before .before .before .before .before .loop .inv .same))
 
 candidates-again-3 : tie.Need-candidates-again-3 Inv-loop μ-loop Inv-candidates μ-candidates
-candidates-again-3 c = keep-next (c .before .before .before .before .before .before .before .before .loop .inv .fold) (c .before .before .before .before .before .before .before .before .loop .inv .upto) (rw (c .before .before .variant-worth .ensures) (scanning-found (c .before .before .before .before .before .before .before .before .loop .inv) (c .before .before .before .before .before .before .before .loop-test .taken) (c .before .before .before .before .before .before .entry-of2 .ensures) (c .before .before .before .before .before .text-of2 .ensures) (c .before .before .before .before .same-flavourless .ensures) (c .before .before .before .if5 .taken))) (c .before .keep .ensures) (c .if6 .taken)
+candidates-again-3 c = keep-next (c .before .before .before .before .before .before .before .loop .inv .fold) (c .before .before .before .before .before .before .before .loop .inv .upto) (rw (c .before .before .variant-worth .ensures) (scanning-found (c .before .before .before .before .before .before .before .loop .inv) (c .before .before .before .before .before .before .loop-test .taken) (c .before .before .before .before .before .entry-of2 .ensures) (c .before .before .before .before .same-named .ensures) (c .before .before .before .if5 .taken))) (c .before .keep .ensures) (c .if6 .taken)
 
 loop-again : tie.Need-loop-again Inv-loop μ-loop Inv-candidates μ-candidates
-loop-again c = scanning-next (c .before .before .before .before .before .loop .inv) (c .before .before .before .before .loop-test .taken) (c .before .before .before .entry-of2 .ensures) (c .before .before .text-of2 .ensures) (c .before .same-flavourless .ensures) (c .if5 .left)
+loop-again c = scanning-next (c .before .before .before .before .loop .inv) (c .before .before .before .loop-test .taken) (c .before .before .entry-of2 .ensures) (c .before .same-named .ensures) (c .if5 .left)
 
 add-id-4 : tie.Need-add-id-4 Inv-loop μ-loop Inv-candidates μ-candidates
 add-id-4 c = omega (arith, (c .before .before .loop .inv .fold .fits), (c .if7 .taken))
@@ -78,7 +78,7 @@ returns-4 : tie.Need-returns-4 Inv-loop μ-loop Inv-candidates μ-candidates
 returns-4 c = pass-end (c .before .before .before .before .before .before .before .before .before .before .before .candidates .inv) (c .before .before .before .before .before .before .before .before .before .before .candidates-test .taken) (enum-other _ _ _ _ (a-candidate _ _ _ _ _ (c .before .before .before .before .before .before .before .before .before .is-candidate .ensures) (not-false _ (c .before .before .before .before .before .before .before .before .if1 .left))) (sym (c .before .before .before .before .before .before .before .resolve-type .ensures) ∙ (c .before .before .before .before .before .e .given .1)) (rw (c .before .before .before .kind-of2 .ensures) at (sym (c .before .before .is-enum .ensures) ∙ not-true _ (c .before .if3 .taken)))) (c .if4 .left) ∙ variant-fold _ _ (c .before .before .before .before .before .before .before .before .before .before .before .before .before .before .before .before .before .before .before .before .args .relo) (c .before .before .before .before .before .before .before .before .before .before .before .before .before .before .before .kind-of .ensures) (c .before .before .before .before .before .before .before .before .before .before .before .before .before .before .type-name .ensures) _ ((c .before .before .before .before .before .before .before .before .before .before .before .before .text-of .ensures) ∙ rw (c .before .before .before .before .before .before .before .before .before .before .before .before .before .entry-of .ensures))
 
 returns-5 : tie.Need-returns-5 Inv-loop μ-loop Inv-candidates μ-candidates
-returns-5 c = keep-end (c .before .before .before .before .before .before .before .before .loop .inv .fold) (c .before .before .before .before .before .before .before .before .loop .inv .upto) (rw (c .before .before .variant-worth .ensures) (scanning-found (c .before .before .before .before .before .before .before .before .loop .inv) (c .before .before .before .before .before .before .before .loop-test .taken) (c .before .before .before .before .before .before .entry-of2 .ensures) (c .before .before .before .before .before .text-of2 .ensures) (c .before .before .before .before .same-flavourless .ensures) (c .before .before .before .if5 .taken))) (c .before .keep .ensures) (c .if6 .left) ∙ variant-fold _ _ (c .before .before .before .before .before .before .before .before .before .before .before .before .before .before .before .before .before .before .before .before .before .before .before .before .before .before .before .before .before .args .relo) (c .before .before .before .before .before .before .before .before .before .before .before .before .before .before .before .before .before .before .before .before .before .before .before .before .kind-of .ensures) (c .before .before .before .before .before .before .before .before .before .before .before .before .before .before .before .before .before .before .before .before .before .before .before .type-name .ensures) _ ((c .before .before .before .before .before .before .before .before .before .before .before .before .before .before .before .before .before .before .before .before .before .text-of .ensures) ∙ rw (c .before .before .before .before .before .before .before .before .before .before .before .before .before .before .before .before .before .before .before .before .before .before .entry-of .ensures))
+returns-5 c = keep-end (c .before .before .before .before .before .before .before .loop .inv .fold) (c .before .before .before .before .before .before .before .loop .inv .upto) (rw (c .before .before .variant-worth .ensures) (scanning-found (c .before .before .before .before .before .before .before .loop .inv) (c .before .before .before .before .before .before .loop-test .taken) (c .before .before .before .before .before .entry-of2 .ensures) (c .before .before .before .before .same-named .ensures) (c .before .before .before .if5 .taken))) (c .before .keep .ensures) (c .if6 .left) ∙ variant-fold _ _ (c .before .before .before .before .before .before .before .before .before .before .before .before .before .before .before .before .before .before .before .before .before .before .before .before .before .before .before .before .args .relo) (c .before .before .before .before .before .before .before .before .before .before .before .before .before .before .before .before .before .before .before .before .before .before .before .kind-of .ensures) (c .before .before .before .before .before .before .before .before .before .before .before .before .before .before .before .before .before .before .before .before .before .before .type-name .ensures) _ ((c .before .before .before .before .before .before .before .before .before .before .before .before .before .before .before .before .before .before .before .before .text-of .ensures) ∙ rw (c .before .before .before .before .before .before .before .before .before .before .before .before .before .before .before .before .before .before .before .before .before .entry-of .ensures))
 
 returns-6 : tie.Need-returns-6 Inv-loop μ-loop Inv-candidates μ-candidates
 returns-6 c = pass-end (c .before .before .loop .inv .fold) (c .before .before .loop .inv .upto) (scanning-none (c .before .before .loop .inv) (c .before .loop-test .left)) (c .if7 .left) ∙ variant-fold _ _ (c .before .before .before .before .before .before .before .before .before .before .before .before .before .before .before .before .before .before .before .before .before .before .before .args .relo) (c .before .before .before .before .before .before .before .before .before .before .before .before .before .before .before .before .before .before .kind-of .ensures) (c .before .before .before .before .before .before .before .before .before .before .before .before .before .before .before .before .before .type-name .ensures) _ ((c .before .before .before .before .before .before .before .before .before .before .before .before .before .before .before .text-of .ensures) ∙ rw (c .before .before .before .before .before .before .before .before .before .before .before .before .before .before .before .before .entry-of .ensures))
@@ -111,7 +111,6 @@ enum-matches-spec =
     candidates-again-2
     (λ c κs. search needs)
     loop-holds
-    (λ c κs. search needs)
     (λ c κs. search needs)
     (λ c κs. search needs)
     (λ c κs. search needs)

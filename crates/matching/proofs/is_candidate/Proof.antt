@@ -10,7 +10,7 @@ returns : tie.Need-returns
 returns c = sym (rw (← (c .before .kind-of .ensures), ne-eqb _ _ (c .if1 .taken)))
 
 returns-2 : tie.Need-returns-2
-returns-2 c = sym (rw (← (c .before .before .before .before .kind-of .ensures), eq-eqb _ _ (c .before .before .before .if1 .left), ← (c .before .before .name-of .ensures), ← (c .before .text-of .ensures), ← (c .same-flavourless .ensures)))
+returns-2 c = sym (rw (← (c .before .before .before .kind-of .ensures), eq-eqb _ _ (c .before .before .if1 .left), ← (c .before .name-of .ensures), ← (c .same-named .ensures)))
 
 pub is-candidate-spec : {M : Type 1} → statement M
 is-candidate-spec =
@@ -18,7 +18,6 @@ is-candidate-spec =
     (tie.spec
     (λ c κs. search needs)
     returns
-    (λ c κs. search needs)
     (λ c κs. search needs)
     (λ c κs. search needs)
     returns-2)

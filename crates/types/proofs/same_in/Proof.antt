@@ -1,20 +1,20 @@
--- `types::same_flavourless` meets its contract.
+-- `types::same_in` meets its contract.
 -- Assumes nothing.
 use Rattle.types.proofs.Laws.{no}
 use mathlib.Core.Path.{refl}
 use Prim.Native.Nat.{_-_}
 use lib.ListN.{length}
 use native.Mathlib.Omega.{arith}
-use Rattle.types.proofs.Names.{Alike, inside, name-ends, other-ends, name-differs, name-goes}
+use Rattle.types.proofs.Names.{Alike, inside, inside-in, name-ends, other-ends, name-differs, name-goes}
 use borrow.Author.Needs.{needs}
-use Rattle.types.proofs.same_flavourless.Statement.{statement}
-use Rattle.types.proofs.same_flavourless.Tie as tie
+use Rattle.types.proofs.same_in.Statement.{statement}
+use Rattle.types.proofs.same_in.Tie as tie
 
 abbrev Inv-loop : tie.InvT-loop
-Inv-loop a b i₀ i = Alike a b i
+Inv-loop name strings from i₀ at₀ i at = Alike name strings from i at
 
 abbrev μ-loop : tie.MeasureT-loop
-μ-loop a b i₀ i = length a - i
+μ-loop name strings from i₀ at₀ i at = length name - i
 
 loop-holds : tie.Need-loop-holds Inv-loop μ-loop
 loop-holds c = refl
@@ -24,13 +24,13 @@ returns c =
     let b3 = c .before .before .before in
     let b4 = b3 .before in
     let b7 = b4 .before .before .before in
-    other-ends (b7 .args .a .now) (b7 .args .b .now) (b4 .loop .i) (b4 .loop .inv) (b3 .ends-at .ensures) (c .before .ends-at2 .ensures) (c .before .before .if1 .taken) (c .if2 .taken)
+    other-ends (b7 .args .name .now) (b7 .args .strings .now) (b7 .args .from) (b4 .loop .i) (b4 .loop .at) (b4 .loop .inv) (b3 .ends-at .ensures) (c .before .ends-in .ensures) (c .before .before .if1 .taken) (c .if2 .taken)
 
 shared-slice-read-if3 : tie.Need-shared-slice-read-if3 Inv-loop μ-loop
 shared-slice-read-if3 c = inside _ _ (c .before .before .before .before .ends-at .ensures) (no _ (c .before .before .before .if1 .taken))
 
 shared-slice-read-if3-2 : tie.Need-shared-slice-read-if3-2 Inv-loop μ-loop
-shared-slice-read-if3-2 c = inside _ _ (c .before .before .before .ends-at2 .ensures) (c .before .before .if2 .left)
+shared-slice-read-if3-2 c = inside-in _ _ (c .before .before .before .ends-in .ensures) (c .before .before .if2 .left)
 
 returns-2 : tie.Need-returns-2 Inv-loop μ-loop
 returns-2 c =
@@ -40,7 +40,7 @@ returns-2 c =
     let b6 = b5 .before in
     let b7 = b6 .before in
     let b10 = b7 .before .before .before in
-    name-differs (b10 .args .a .now) (b10 .args .b .now) (b7 .loop .i) (b7 .loop .inv) (b6 .ends-at .ensures) (b4 .ends-at2 .ensures) (b5 .if1 .taken) (b3 .if2 .left) (c .if3 .taken)
+    name-differs (b10 .args .name .now) (b10 .args .strings .now) (b10 .args .from) (b7 .loop .i) (b7 .loop .at) (b7 .loop .inv) (b6 .ends-at .ensures) (b4 .ends-in .ensures) (b5 .if1 .taken) (b3 .if2 .left) (c .if3 .taken)
 
 add-i : tie.Need-add-i Inv-loop μ-loop
 add-i c =
@@ -48,7 +48,15 @@ add-i c =
     let b6 = b5 .before in
     let b7 = b6 .before in
     let b10 = b7 .before .before .before in
-    search (needs, inside (b10 .args .a .now) (b7 .loop .i) (b6 .ends-at .ensures) (no (b6 .ends-at .result) (b5 .if1 .taken)))
+    search (needs, inside (b10 .args .name .now) (b7 .loop .i) (b6 .ends-at .ensures) (no (b6 .ends-at .result) (b5 .if1 .taken)))
+
+add-at : tie.Need-add-at Inv-loop μ-loop
+add-at c =
+    let b3 = c .before .before .before in
+    let b4 = b3 .before in
+    let b7 = b4 .before .before .before in
+    let b10 = b7 .before .before .before in
+    search (needs, inside-in (b10 .args .strings .now) (b7 .loop .at) (b4 .ends-in .ensures) (b3 .if2 .left))
 
 loop-less : tie.Need-loop-less Inv-loop μ-loop
 loop-less c =
@@ -56,7 +64,7 @@ loop-less c =
     let b6 = b5 .before in
     let b7 = b6 .before in
     let b10 = b7 .before .before .before in
-    omega (arith, inside (b10 .args .a .now) (b7 .loop .i) (b6 .ends-at .ensures) (no (b6 .ends-at .result) (b5 .if1 .taken)))
+    omega (arith, inside (b10 .args .name .now) (b7 .loop .i) (b6 .ends-at .ensures) (no (b6 .ends-at .result) (b5 .if1 .taken)))
 
 loop-again : tie.Need-loop-again Inv-loop μ-loop
 loop-again c =
@@ -66,16 +74,16 @@ loop-again c =
     let b6 = b5 .before in
     let b7 = b6 .before in
     let b10 = b7 .before .before .before in
-    name-goes (b10 .args .a .now) (b10 .args .b .now) (b7 .loop .i) (b7 .loop .inv) (b6 .ends-at .ensures) (b4 .ends-at2 .ensures) (b5 .if1 .taken) (b3 .if2 .left) (c .if3 .left)
+    name-goes (b10 .args .name .now) (b10 .args .strings .now) (b10 .args .from) (b7 .loop .i) (b7 .loop .at) (b7 .loop .inv) (b6 .ends-at .ensures) (b4 .ends-in .ensures) (b5 .if1 .taken) (b3 .if2 .left) (c .if3 .left)
 
 returns-3 : tie.Need-returns-3 Inv-loop μ-loop
 returns-3 c =
     let b3 = c .before .before .before in
     let b6 = b3 .before .before .before in
-    name-ends (b6 .args .a .now) (b6 .args .b .now) (b3 .loop .i) (b3 .loop .inv) (c .before .before .ends-at .ensures) (c .ends-at3 .ensures) (c .before .if1 .left)
+    name-ends (b6 .args .name .now) (b6 .args .strings .now) (b6 .args .from) (b3 .loop .i) (b3 .loop .at) (b3 .loop .inv) (c .before .before .ends-at .ensures) (c .ends-in2 .ensures) (c .before .if1 .left)
 
-pub same-flavourless-spec : {M : Type 1} → statement M
-same-flavourless-spec =
+pub same-in-spec : {M : Type 1} → statement M
+same-in-spec =
     tie.close
     (tie.spec
     Inv-loop
@@ -88,6 +96,7 @@ same-flavourless-spec =
     shared-slice-read-if3-2
     returns-2
     add-i
+    add-at
     loop-less
     loop-again
     (λ c κs. search needs)
