@@ -5,7 +5,7 @@ use Rattle.words.specs.Put.{putAt}
 use Rattle.kinds.specs.Kinds.{isKind, extraBytes, entryBytes, hasSize, hasType, encodes, entryOf}
 use Rattle.kinds.specs.Types.{extraAt, entryAt, entriesAt, entryCount, typeAt, typeBytes}
 use Rattle.btf.specs.Sections.{begins, headOf, stringsFine}
-use Rattle.btf.specs.Accept.{encodingFine, good, stepAt, scan, allFit, fits, unfit, checked, accepted}
+use Rattle.btf.specs.Accept.{encodingFine, good, scan, allFit, fits, unfit, checked, accepted}
 use Rattle.view.specs.Text.{cut, textAt}
 use Rattle.view.specs.View.{off, typ, tabTyp}
 use Rattle.rules.specs.Refusal.{returned}
@@ -24,7 +24,7 @@ use Rattle.growth_worked.specs.Variants.{overBy, concludeBy, Refuted}
 
 -- One theorem, so that the definitions to compute with are listed once
 computed : Worked × Refuted × WorkedCalls
-unfolding numAt section putAt isKind extraBytes entryBytes hasSize hasType encodes entryOf extraAt entryAt entriesAt entryCount typeAt typeBytes begins headOf stringsFine encodingFine good stepAt scan allFit fits unfit checked accepted cut textAt off typ tabTyp returned chain resolve elements sizeOf sameText flavourless pairs params meet typesWithin typesCompatible meetFields fieldsWithin fieldsCompatible digits decimal part split numbers parse lastOf localFirstBits localOpen localMember elementBits localElement localStep localSteps firstBits localWalk fieldAccess typeAccess variantAt enumAccess localAccess bitfieldLoad signedness loadValue plainValue bitfieldValue memberValue elementValue fieldValue variantValue typeValue localValue isCandidate variantNamed enumEvent level search targetMember atElement targetOpen targetElement targetStep targetSteps fieldMatch event code sourceRegister withCode withOff withImm poisoned alsoNext poison patchAlu sizeBits withSize resize patchMemory patchWide patchClass patchFront patch turn over eventAt matches absent conclude resizable resizing compute accessed relocated said apply recordOf listOf appliedOf btfIn gives firstMatch causes harmful firstOwn those harmfulIds due allMatched decode recordsFrom endOf runOf shaped relocateOf overBy concludeBy
+unfolding numAt section putAt isKind extraBytes entryBytes hasSize hasType encodes entryOf extraAt entryAt entriesAt entryCount typeAt typeBytes begins headOf stringsFine encodingFine good scan allFit fits unfit checked accepted cut textAt off typ tabTyp returned chain resolve elements sizeOf sameText flavourless pairs params meet typesWithin typesCompatible meetFields fieldsWithin fieldsCompatible digits decimal part split numbers parse lastOf localFirstBits localOpen localMember elementBits localElement localStep localSteps firstBits localWalk fieldAccess typeAccess variantAt enumAccess localAccess bitfieldLoad signedness loadValue plainValue bitfieldValue memberValue elementValue fieldValue variantValue typeValue localValue isCandidate variantNamed enumEvent level search targetMember atElement targetOpen targetElement targetStep targetSteps fieldMatch event code sourceRegister withCode withOff withImm poisoned alsoNext poison patchAlu sizeBits withSize resize patchMemory patchWide patchClass patchFront patch turn over eventAt matches absent conclude resizable resizing compute accessed relocated said apply recordOf listOf appliedOf btfIn gives firstMatch causes harmful firstOwn those harmfulIds due allMatched decode recordsFrom endOf runOf shaped relocateOf overBy concludeBy
 computed = (
   record {
     oldIsBtf = refl;
