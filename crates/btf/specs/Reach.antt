@@ -1,6 +1,6 @@
 -- How far the names and type ids of a type reach: whether they fit is a question to two numbers.
 -- Assumes nothing.
-use Prim.Native.Nat.{ℕ, zero, suc, _+_}
+use Prim.Native.Nat.{ℕ, zero, suc, _+_, _*_}
 use mathlib.Core.Bool.{Bool, cond, _&&_}
 use mathlib.Core.List.{List, [], _∷_}
 use lib.Dec.{leb, ltb}
@@ -13,6 +13,9 @@ use Rattle.btf.specs.declared.Reach.{Reach}
 unfoldable pub larger : ℕ → ℕ → ℕ
 larger a b = cond (ltb a b) b a
 
+unfoldable pub lesser : ℕ → ℕ → ℕ
+lesser a b = cond (ltb a b) a b
+
 -- the largest number of a list's entries, as one field has them
 unfoldable pub largest : (Entry → ℕ) → List Entry → ℕ
 largest f [] = 0
@@ -22,6 +25,15 @@ largest f (e ∷ es) = larger (f e) (largest f es)
 unfoldable pub topmost : List ℕ → ℕ → ℕ → ℕ → ℕ
 topmost t step at zero = 0
 topmost t step at (suc n) = larger (word t at) (topmost t step (at + step) n)
+
+-- the largest of one number and of the words of four entries from the i-th on, the last one's where there are fewer
+abbrev pub entryWord : List ℕ → ℕ → ℕ → ℕ → ℕ → ℕ
+entryWord t step from last i = word t (from + step * lesser i last)
+
+unfoldable pub fourOf : List ℕ → ℕ → ℕ → ℕ → ℕ → ℕ → ℕ
+fourOf t step from i last high =
+    let w = entryWord t step from last in
+    larger high (larger (larger (w i) (w (i + 1))) (larger (w (i + 2)) (w (i + 3))))
 
 abbrev pub names : List Entry → ℕ
 names es = largest (λ e. e .name) es

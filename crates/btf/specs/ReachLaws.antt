@@ -168,26 +168,6 @@ module _ {t : List ℕ} {step from count at left high : ℕ} (i : Topping t step
   topping-end h =
       let z : left ≡ 0 = omega arith in sym (i .same ∙ ap (λ (n : ℕ). larger high (topmost t step at n)) z ∙ larger-zero high)
 
--- both columns of a list in one loop
-pub record Pairing (t : List ℕ) (step from count at left far top : ℕ) : Type 0 where
-  pub names : Topping t step from count at left far
-  pub types : Topping t step (from + 4) count (at + 4) left top
-
-pub pairing-first : (t : List ℕ) (step from count : ℕ) → 8 ≤ step → from + step * count ≤ length t → Pairing t step from count from count 0 0
-pairing-first t step from count l h = record {
-  names = topping-first t step from count (omega arith);
-  types = topping-first t step (from + 4) count (omega arith);
-}
-
-pub pairing-next : {t : List ℕ} {step from count at left far top : ℕ} → Pairing t step from count at left far top → 0 < left → {x y f g : ℕ}
-    → x ≡ word t at → f ≡ larger far x → y ≡ word t (at + 4) → g ≡ larger top y → Pairing t step from count (at + step) (left - 1) f g
-pairing-next {t} {step} {from} {count} {at} {left} i h {g = g} p ef q eg =
-    let e : at + 4 + step ≡ at + step + 4 = omega arith in
-    record {
-      names = topping-next (i .names) h p ef;
-      types = subst (λ (j : ℕ). Topping t step (from + 4) count j (left - 1) g) e (topping-next (i .types) h q eg);
-    }
-
 -- how far the entries of a kind reach, by the words that they have
 abbrev pub Spans : List ℕ → ℕ → ℕ → ℕ → ℕ → ℕ → Type 0
 Spans t from n k a b = reach a b ≡ listReach (entriesAt k t from (entryCount k n))

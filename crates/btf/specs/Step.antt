@@ -25,6 +25,10 @@ upTo t x far top = cond (leb x (length t)) (Next x far top) Fault
 abbrev pub Listed : List ℕ → ℕ → ℕ → ℕ → Type 0
 Listed t from step n = (8 ≤ step) × (step ≤ 12) × (n < 65536) × (from ≤ length t)
 
+-- a column of its words, up to the last entry
+abbrev pub Column : List ℕ → ℕ → ℕ → ℕ → Type 0
+Column t from step last = (step ≤ 12) × (last < 65536) × (from + step * last + 4 ≤ length t)
+
 -- past a list of names and types, of names, of types; `name` and `typ` are the type's own
 unfoldable pub pastPairs : List ℕ → ℕ → ℕ → ℕ → ℕ → ℕ → Step
 pastPairs t from step n name typ =
