@@ -2,7 +2,7 @@
 -- Assumes nothing.
 use Prim.Native.Nat.{ℕ, zero, suc, _+_, _≤_, _<_}
 use mathlib.Core.Path.{_≡_, refl, sym, subst, ap, _∙_}
-use mathlib.Core.Bool.{Bool, true, false, cond, _&&_, not}
+use mathlib.Core.Bool.{Bool, true, false, cond, _&&_}
 use mathlib.Core.List.{List, [], _∷_}
 use native.Mathlib.Nat.{add-zero}
 use native.Mathlib.Numerals.{add-one}
@@ -13,7 +13,6 @@ use lib.Seq.{drop-cons, getD-drop}
 use borrow.Author.Tests.{eq-eqb, ne-eqb, ltb-true, ltb-false}
 use Rattle.view.specs.Text.{cut, textAt}
 use Rattle.rules.specs.Types.{isEmpty, sameText, flavourBegins, flavourless, sameFlavourless}
-use Rattle.types.proofs.Laws.{no, yes}
 
 -- Texts of other lengths
 pub other-length : (xs ys : List ℕ) → (length xs ≡ length ys → ⊥) → false ≡ sameText xs ys
@@ -171,17 +170,17 @@ abbrev pub Alike : List ℕ → List ℕ → ℕ → ℕ → ℕ → Type 0
 Alike a s from i j = sameFlavourless (drop i a) (textAt s j) ≡ sameFlavourless a (textAt s from)
 
 module _ (a s : List ℕ) (from i j : ℕ) (p : Alike a s from i j) {u v : Bool} (e : u ≡ isEmpty (flavourless (drop i a))) (f : v ≡ isEmpty (flavourless (textAt s j))) where
-  pub name-ends : not u ≡ false → v ≡ sameFlavourless a (textAt s from)
-  name-ends h = f ∙ first-empty _ _ (sym e ∙ yes u h) ∙ p
+  pub name-ends : u ≡ true → v ≡ sameFlavourless a (textAt s from)
+  name-ends h = f ∙ first-empty _ _ (sym e ∙ h) ∙ p
 
-  module _ (h : not u ≡ true) where
+  module _ (h : u ≡ false) where
     pub other-ends : v ≡ true → false ≡ sameFlavourless a (textAt s from)
-    other-ends g = second-empty _ _ (sym e ∙ no u h) (sym f ∙ g) ∙ p
+    other-ends g = second-empty _ _ (sym e ∙ h) (sym f ∙ g) ∙ p
 
     module _ (g : v ≡ false) where
       both-go : sameFlavourless (drop i a) (textAt s j) ≡ (eqb (getD a i 0) (getD s j 0) && sameFlavourless (drop (suc i) a) (textAt s (suc j)))
       unfolding sameText
-      both-go = rw (byte-left a i e (no u h), text-left s j f g)
+      both-go = rw (byte-left a i e h, text-left s j f g)
 
       pub name-differs : (getD a i 0 ≡ getD s j 0 → ⊥) → false ≡ sameFlavourless a (textAt s from)
       name-differs q = sym (both-go ∙ rw (ne-eqb (getD a i 0) (getD s j 0) q)) ∙ p

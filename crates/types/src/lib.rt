@@ -196,8 +196,12 @@ fn same_in(name: &[u8], strings: &[u8], from: usize) -> bool
 {
     let mut i = 0;
     let mut at = from;
-    while !ends_at(name, i) {
-        if ends_in(strings, at) {
+    loop {
+        let over = ends_in(strings, at);
+        if ends_at(name, i) {
+            return over;
+        }
+        if over {
             return false;
         }
         if name[i] != strings[at] {
@@ -206,7 +210,6 @@ fn same_in(name: &[u8], strings: &[u8], from: usize) -> bool
         i += 1;
         at += 1;
     }
-    ends_in(strings, at)
 }
 
 // Whether a name and the one at an offset of the strings are the same but for flavours.
