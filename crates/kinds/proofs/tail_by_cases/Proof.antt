@@ -7,7 +7,7 @@ use native.Mathlib.Omega.{arith}
 use Rattle.kinds.specs.declared.Tail.{Tail}
 use Rattle.kinds.specs.Kinds.{tailOf, extraBytes, entryBytes}
 use Rattle.kinds.specs.Keys.{at-key, in-range}
-use Rattle.kinds.proofs.Others.{others}
+use Rattle.kinds.specs.Others.{others}
 use Rattle.kinds.proofs.tail_by_cases.Statement.{statement}
 use Rattle.kinds.proofs.tail_by_cases.Tie as tie
 

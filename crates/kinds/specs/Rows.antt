@@ -7,18 +7,22 @@ use mathlib.Core.List.{List, [], _∷_}
 use Prim.Native.Nat.{ℕ, zero, suc, _≤_, _<_}
 use native.Mathlib.Omega.{arith}
 use lib.Dec.{T, eqb}
-use lib.ListN.{getD}
+use lib.ListN.{length, getD}
 use mir.Facts.{and-yes, eqb-yes}
 use Rattle.kinds.specs.declared.Tail.{Tail}
 use Rattle.kinds.specs.Kinds.{tailOf, extraBytes, entryBytes}
 use Rattle.kinds.specs.Keys.{split}
-use Rattle.kinds.proofs.Others.{others}
+use Rattle.kinds.specs.Others.{others}
 
 abbrev pub extras : List ℕ
 extras = 0 ∷ 4 ∷ 0 ∷ 12 ∷ 0 ∷ 0 ∷ 0 ∷ 0 ∷ 0 ∷ 0 ∷ 0 ∷ 0 ∷ 0 ∷ 0 ∷ 4 ∷ 0 ∷ 0 ∷ 4 ∷ 0 ∷ 0 ∷ []
 
 abbrev pub entries : List ℕ
 entries = 0 ∷ 0 ∷ 0 ∷ 0 ∷ 12 ∷ 12 ∷ 8 ∷ 0 ∷ 0 ∷ 0 ∷ 0 ∷ 0 ∷ 0 ∷ 8 ∷ 0 ∷ 12 ∷ 0 ∷ 0 ∷ 0 ∷ 12 ∷ []
+
+-- two lists are the table's columns
+abbrev pub Columns : List ℕ → List ℕ → Type 0
+Columns a b = (a ≡ extras) × (b ≡ entries)
 
 -- a row, as the code answers it
 abbrev rowAt : ℕ → Tail
@@ -54,11 +58,13 @@ beyond k h =
     others k (⊎-elim (λ e. omega arith) (⊎-elim (λ e. omega arith) (λ e. omega arith))) (λ e. omega arith) (⊎-elim (λ e. omega arith) (λ e. omega arith))
     (⊎-elim (λ e. omega arith) (λ e. omega arith)) (λ e. omega arith) (λ e. omega arith)
 
--- the row that the code takes for a kind
-pub record Taken (k r : ℕ) : Type 0 where
-  pub inside : r < 20
-  pub is : rowAt r ≡ tailOf k
+-- the row that the code takes for a kind, in two lists that are the columns
+pub record Taken (a b : List ℕ) (k r : ℕ) : Type 0 where
+  pub few : r < 20
+  pub inOnce : r < length a
+  pub inEach : r < length b
+  pub is : _≡_ {A = Tail} (record { once = getD a r 0; each = getD b r 0 }) (tailOf k)
 
-pub taken : (k r : ℕ) → ((k < 20) × (r ≡ k)) ⊎ ((20 ≤ k) × (r ≡ 0)) → Taken k r
-taken k r (inl h) = rw (h .1) (record { inside = h .0; is = at k (h .0) })
-taken k r (inr h) = rw (h .1) (record { inside = omega arith; is = beyond k (h .0) })
+pub taken : (a b : List ℕ) (k r : ℕ) → Columns a b → ((k < 20) × (r ≡ k)) ⊎ ((20 ≤ k) × (r ≡ 0)) → Taken a b k r
+taken a b k r c (inl h) = rw (c .0, c .1, h .1) (record { few = h .0; inOnce = h .0; inEach = h .0; is = at k (h .0) })
+taken a b k r c (inr h) = rw (c .0, c .1, h .1) (record { few = omega arith; inOnce = omega arith; inEach = omega arith; is = beyond k (h .0) })
