@@ -1,8 +1,10 @@
 -- What an id gives, by whether it is a candidate.
 -- Assumes nothing.
-use Prim.Native.Nat.{ℕ, suc}
-use mathlib.Core.Path.{_≡_, sym}
-use mathlib.Core.Bool.{Bool, true, false}
+use Prim.Native.Nat.{ℕ, suc, _+_, _-_, _≤_, _<_}
+use mathlib.Core.Path.{_≡_, sym, _∙_}
+use mathlib.Core.Bool.{Bool, true, false, cond}
+use native.Mathlib.Omega.{arith}
+use native.Mathlib.Numerals.{add-one}
 use mathlib.Core.List.{List}
 use Rattle.view.specs.View.{View}
 use Rattle.rules.specs.declared.Accessor.{Accessor}
@@ -15,7 +17,7 @@ use Rattle.rules.specs.declared.Matches.the-variants.{Unmatched}
 use Rattle.rules.specs.Refusal.{Reply}
 use Rattle.rules.specs.Matching.{fieldMatch, fieldEvent}
 use Rattle.rules.specs.Record.{over}
-use Rattle.matching.specs.Candidates.{candidateBy, among, enumEvents, fieldEvents, folded}
+use Rattle.matching.specs.Candidates.{candidateBy, firstFrom, among, enumEvents, fieldEvents, folded}
 
 module _ (T : View) (own : ℕ) (name : List ℕ) (f : ℕ → Event) (i : ℕ) {is : Bool} (c : is ≡ candidateBy own name T i) where
   pub no-candidate : is ≡ false → among T own name f i ≡ Nothing
@@ -25,6 +27,23 @@ module _ (T : View) (own : ℕ) (name : List ℕ) (f : ℕ → Event) (i : ℕ) 
   pub a-candidate : is ≡ true → among T own name f i ≡ f i
   unfolding among
   a-candidate h = rw (← c, h)
+
+-- The search for a candidate, at the id i
+module _ (T : View) (own : ℕ) (name : List ℕ) (last i : ℕ) where
+  pub none-from : last < i → firstFrom T own name i (suc last - i) ≡ i
+  unfolding firstFrom
+  none-from h = let z : suc last - i ≡ 0 = omega arith in rw z
+
+  module _ (h : i ≤ last) {is : Bool} (c : is ≡ candidateBy own name T i) where
+    turned : firstFrom T own name i (suc last - i) ≡ cond is i (firstFrom T own name (suc i) (last - i))
+    unfolding firstFrom
+    turned = let z : suc last - i ≡ suc (last - i) = omega arith in rw (z, ← c)
+
+    pub found-from : is ≡ true → firstFrom T own name i (suc last - i) ≡ i
+    found-from b = turned ∙ rw b
+
+    pub later-from : is ≡ false → firstFrom T own name (i + 1) (suc last - (i + 1)) ≡ firstFrom T own name i (suc last - i)
+    later-from b = let z : suc last - (i + 1) ≡ last - i = omega arith in rw (z, add-one i) (sym (turned ∙ rw b))
 
 -- The fold by a kind and a name that were found before is the record's.
 module _ (L T : View) (r : Record) {own : ℕ} {name : List ℕ} (p : own ≡ L .typ (r .typ) .kind) (q : name ≡ L .text (L .typ (r .typ) .name)) where

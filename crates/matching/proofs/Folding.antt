@@ -3,8 +3,10 @@
 use Prim.Native.Nat.{ℕ, zero, suc, _+_, _-_, _≤_, _<_}
 use mathlib.Core.Path.{_≡_, refl, sym, ap, _∙_}
 use mathlib.Core.Bool.{Bool, true, false, cond}
+use mathlib.Core.List.{List}
 use native.Mathlib.Omega.{arith}
 use native.Mathlib.Numerals.{add-one}
+use Rattle.view.specs.View.{View}
 use Rattle.rules.specs.declared.Refusal.{Refusal}
 use Rattle.rules.specs.declared.Worth.{Worth}
 use Rattle.rules.specs.declared.Event.{Event}
@@ -12,7 +14,8 @@ use Rattle.rules.specs.declared.Event.the-variants.{Nothing, Matched, Bad}
 use Rattle.rules.specs.declared.Matches.{Matches}
 use Rattle.rules.specs.declared.Matches.the-variants.{Unmatched, Kept, Halted}
 use Rattle.rules.specs.Record.{agrees, firstOf, turn, over}
-use Rattle.matching.specs.Candidates.{conflicts}
+use Rattle.matching.specs.Candidates.{candidateBy, firstFrom, among, conflicts}
+use Rattle.matching.proofs.Events.{no-candidate, a-candidate}
 
 -- A refusal has ended the fold.
 abbrev halted : Matches → Bool
@@ -57,52 +60,99 @@ unfolding over turn
 over-halted f r i zero = refl
 over-halted f r i (suc n) = over-halted f r (suc i) n
 
--- ids 0 to `last`; n is the loop's own bound, `end` what the whole fold comes to
-pub record Folding (f : ℕ → Event) (last n : ℕ) (end : Matches) (s : Matches) (i : ℕ) : Type 0 where
-  pub all : n ≡ last
-  pub fits : n < 4294967296
+-- The first candidate of n ids from i on, as a fold goes: r is a candidate unless all n are none, and what is before it gives nothing.
+pub record First (f g : ℕ → Event) (i n r : ℕ) : Type 0 where
+  pub low : i ≤ r
+  pub high : r ≤ i + n
+  pub is : r < i + n → f r ≡ g r
+  pub skip : (s : Matches) → over f s i n ≡ over f s r (i + n - r)
+
+module _ (T : View) (own : ℕ) (name : List ℕ) (g : ℕ → Event) where
+  first-none : (i : ℕ) → First (among T own name g) g i 0 i
+  first-none i = let e : i + 0 - i ≡ 0 = omega arith in record { low = omega arith; high = omega arith; is = λ h. absurd (omega arith); skip = λ s. rw e }
+
+  first-here : (i n : ℕ) → candidateBy own name T i ≡ true → First (among T own name g) g i (suc n) i
+  first-here i n c =
+      let e : i + suc n - i ≡ suc n = omega arith in
+      record { low = omega arith; high = omega arith; is = λ h. a-candidate T own name g i (sym c) refl; skip = λ s. rw e }
+
+  first-later : (i n : ℕ) {r : ℕ} → candidateBy own name T i ≡ false → First (among T own name g) g (suc i) n r → First (among T own name g) g i (suc n) r
+  unfolding over
+  first-later i n {r} c v =
+      let e : i + suc n - r ≡ suc i + n - r = omega arith in
+      record {
+        low = omega (arith, v .low);
+        high = omega (arith, v .high);
+        is = λ h. v .is (omega arith);
+        skip = λ s. rw (no-candidate T own name g i (sym c) refl, turn-nothing s i, e) (v .skip s);
+      }
+
+  pub first : (i n : ℕ) → First (among T own name g) g i n (firstFrom T own name i n)
+  unfolding firstFrom
+  first i zero = first-none i
+  first i (suc n) = go (candidateBy own name T i) refl (first (suc i) n)
+    where
+      go : (t : Bool) → candidateBy own name T i ≡ t → First (among T own name g) g (suc i) n (firstFrom T own name (suc i) n)
+          → First (among T own name g) g i (suc n) (cond t i (firstFrom T own name (suc i) n))
+      go true c v = first-here i n c
+      go false c v = first-later i n c v
+
+-- ids 0 to `last`; i is a candidate or past the last, `end` what the whole fold comes to
+pub record Folding (T : View) (own : ℕ) (name : List ℕ) (g : ℕ → Event) (last : ℕ) (end : Matches) (s : Matches) (i : ℕ) : Type 0 where
+  pub fits : last < 4294967296
+  pub high : i ≤ suc last
   pub going : halted s ≡ false
   pub few : conflicts s ≤ i
-  pub rest : over f s i (suc last - i) ≡ end
+  pub is : i ≤ last → among T own name g i ≡ g i
+  pub rest : over (among T own name g) s i (suc last - i) ≡ end
 
-pub folding-first : (f : ℕ → Event) (last : ℕ) {end : Matches} → last < 4294967296 → over f Unmatched 0 (suc last) ≡ end → Folding f last last end Unmatched 0
-folding-first f last h e =
-    record { all = refl; fits = h; going = refl; few = omega arith; rest = let z : suc last - 0 ≡ suc last = omega arith in ap (over f Unmatched 0) z ∙ e }
+module _ (T : View) (own : ℕ) (name : List ℕ) (g : ℕ → Event) (last : ℕ) {end : Matches} where
+  -- From i on, at the first candidate
+  reached : {s : Matches} (i : ℕ) → last < 4294967296 → i ≤ suc last → halted s ≡ false → conflicts s ≤ i → over (among T own name g) s i (suc last - i) ≡ end
+      → Folding T own name g last end s (firstFrom T own name i (suc last - i))
+  reached {s} i h l o c e =
+      let z : i + (suc last - i) ≡ suc last = omega arith in
+      let v = first T own name g i (suc last - i) in
+      record {
+        fits = h;
+        high = omega (arith, v .high);
+        going = o;
+        few = omega (arith, v .low);
+        is = λ b. v .is (omega arith);
+        rest = sym (rw z at (v .skip s)) ∙ e;
+      }
 
-module _ {f : ℕ → Event} {last n : ℕ} {end s : Matches} {i : ℕ} (v : Folding f last n end s i) where
-  pub folding-over : n < i → s ≡ end
+  pub folding-first : {r : ℕ} → last < 4294967296 → over (among T own name g) Unmatched 0 (suc last) ≡ end → r ≡ firstFrom T own name 0 (suc last - 0) → Folding T own name g last end Unmatched r
+  folding-first h e p =
+      let z : suc last - 0 ≡ suc last = omega arith in
+      rw p (reached 0 h (omega arith) refl (omega arith) (ap (over (among T own name g) Unmatched 0) z ∙ e))
+
+module _ {T : View} {own : ℕ} {name : List ℕ} {g : ℕ → Event} {last : ℕ} {end s : Matches} {i : ℕ} (v : Folding T own name g last end s i) where
+  pub folding-over : last < i → s ≡ end
   unfolding over
-  folding-over h = let z : suc last - i ≡ 0 = omega (arith, v .all) in rw z at (v .rest)
+  folding-over h = let z : suc last - i ≡ 0 = omega arith in rw z at (v .rest)
 
-  module _ (h : i ≤ n) where
-    turned : {e : Event} → f i ≡ e → over f (turn s i e) (suc i) (last - i) ≡ end
+  module _ (h : i ≤ last) where
+    turned : {e : Event} → g i ≡ e → over (among T own name g) (turn s i e) (suc i) (last - i) ≡ end
     unfolding over
     turned e =
-        let less : suc last - i ≡ suc (last - i) = omega (arith, v .all) in
-        rw (← e) (sym (ap (over f s i) less) ∙ v .rest)
+        let less : suc last - i ≡ suc (last - i) = omega arith in
+        rw (← e, ← (v .is h)) (sym (ap (over (among T own name g) s i) less) ∙ v .rest)
 
-    next : {t : Matches} → halted t ≡ false → conflicts t ≤ i + 1 → over f t (suc i) (last - i) ≡ end → i < n → Folding f last n end t (i + 1)
-    next {t} g c r l =
-        let less : suc last - (i + 1) ≡ last - i = omega arith in
-        record { all = v .all; fits = v .fits; going = g; few = c; rest = rw (less, add-one) r }
+    module _ {r : ℕ} (q : r ≡ firstFrom T own name (i + 1) (suc last - (i + 1))) where
+      next : {t : Matches} → halted t ≡ false → conflicts t ≤ i + 1 → over (among T own name g) t (suc i) (last - i) ≡ end → Folding T own name g last end t r
+      next {t} o c e =
+          let less : suc last - (i + 1) ≡ last - i = omega arith in
+          rw q (reached T own name g last (i + 1) (v .fits) (omega arith) o c (rw (less, add-one) e))
 
-    ended : {t : Matches} → over f t (suc i) (last - i) ≡ end → n ≤ i → t ≡ end
-    unfolding over
-    ended r l = let z : last - i ≡ 0 = omega (arith, v .all) in rw z at r
+      pub less : suc last - r < suc last - i
+      less = rw q (omega (arith, first T own name g (i + 1) (suc last - (i + 1)) .low))
 
-    module _ (p : f i ≡ Nothing) where
-      pub pass-next : i < n → Folding f last n end s (i + 1)
-      pass-next = next (v .going) (omega (arith, v .few)) (rw turn-nothing at (turned p))
+      pub pass-next : g i ≡ Nothing → Folding T own name g last end s r
+      pass-next p = next (v .going) (omega (arith, v .few)) (rw turn-nothing at (turned p))
 
-      pub pass-end : n ≤ i → s ≡ end
-      pass-end = ended (rw turn-nothing at (turned p))
+      pub keep-next : {b : ℕ} {w : Worth} → g i ≡ Matched b w → {t : Matches} → t ≡ turn s i (Matched b w) → Folding T own name g last end t r
+      keep-next {b} {w} p k = rw k (next (turn-goes s i b w (v .going)) (omega (arith, turn-few s i b w, v .few)) (turned p))
 
-    module _ {b : ℕ} {w : Worth} (p : f i ≡ Matched b w) {t : Matches} (q : t ≡ turn s i (Matched b w)) where
-      pub keep-next : i < n → Folding f last n end t (i + 1)
-      keep-next = rw q (next (turn-goes s i b w (v .going)) (omega (arith, turn-few s i b w, v .few)) (turned p))
-
-      pub keep-end : n ≤ i → t ≡ end
-      keep-end = rw q (ended (turned p))
-
-    pub halt : {r : Refusal} → f i ≡ Bad r → Halted r ≡ end
-    halt {r} p = sym (over-halted f r (suc i) (last - i)) ∙ (rw (turn-bad s i r (v .going)) at (turned p))
+    pub halt : {r : Refusal} → g i ≡ Bad r → Halted r ≡ end
+    halt {r} p = sym (over-halted (among T own name g) r (suc i) (last - i)) ∙ (rw (turn-bad s i r (v .going)) at (turned p))

@@ -29,6 +29,11 @@ use Rattle.rules.specs.Record.{over, eventAt, matches}
 abbrev pub candidateBy : ℕ → List ℕ → View → ℕ → Bool
 candidateBy own name T i = eqb own (T .typ i .kind) && sameFlavourless name (T .text (T .typ i .name))
 
+-- The first candidate of n ids from i on, or the id after them
+unfoldable pub firstFrom : View → ℕ → List ℕ → ℕ → ℕ → ℕ
+firstFrom T own name i zero = i
+firstFrom T own name i (suc n) = let later = firstFrom T own name (suc i) n in cond (candidateBy own name T i) i later
+
 -- What id i gives, where f tells what a candidate gives
 unfoldable pub among : View → ℕ → List ℕ → (ℕ → Event) → ℕ → Event
 among T own name f i = let e = f i in cond (candidateBy own name T i) e Nothing

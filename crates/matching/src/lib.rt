@@ -29,14 +29,14 @@ use view::kind_of;
 use view::name_of;
 use view::text_of;
 ghost use mathlib.Core.Path.{_≡_};
-ghost use Prim.Native.Nat.{_+_, _<_, _≤_};
+ghost use Prim.Native.Nat.{suc, _+_, _-_, _<_, _≤_};
 ghost use mathlib.Core.Bool.{cond};
 ghost use lib.Dec.{leb};
 ghost use lib.ListN.{take};
 ghost use Rattle.view.specs.View.{tabView};
 ghost use Rattle.rules.specs.declared.Event.the-variants.{Matched};
 ghost use Rattle.rules.specs.Record.{agree, agrees, turn};
-ghost use Rattle.matching.specs.Candidates.{candidateBy, conflicts, variantWorth, typeEvents, enumEvents, fieldEvents, folded, matchesOf};
+ghost use Rattle.matching.specs.Candidates.{candidateBy, firstFrom, conflicts, variantWorth, typeEvents, enumEvents, fieldEvents, folded, matchesOf};
 ghost use Rattle.access.specs.Replies.{accessOf};
 ghost use Rattle.value.specs.Replies.{replyOf};
 ghost use Rattle.rules.specs.Fields.{entryAt};
@@ -61,6 +61,28 @@ pub fn is_candidate(
         return false;
     }
     same_named(name, target, tbtf, name_of(target, ttable, tbtf, id))
+}
+
+// The first candidate from an id on; the id after the last where there is none. Every id is asked here, in one loop that
+// does nothing else: the folds go from candidate to candidate.
+fn next_candidate(
+    target: &[u8],
+    ttable: &[u32],
+    tbtf: Btf,
+    kind: u32,
+    name: &[u8],
+    from: u64,
+) -> u64
+    ensures { λ r. ⌜ r ≡ firstFrom (tabView (now (target .entry)) (now (ttable .entry)) tbtf) kind (now (name .entry)) from (suc (tbtf .last) - from) ⌝ }
+{
+    let mut id = from;
+    while id <= tbtf.last as u64 {
+        if is_candidate(target, ttable, tbtf, kind, name, id as u32) {
+            return id;
+        }
+        id += 1;
+    }
+    id
 }
 
 // Two values conflict only where both are there.
@@ -160,10 +182,10 @@ fn type_matches(
     let own = kind_of(local, ltable, lbtf, relo.typ);
     let name = type_name(local, ltable, lbtf, relo.typ);
     let mut kept = Matches::Unmatched;
-    for id in 0..=tbtf.last {
-        if !is_candidate(target, ttable, tbtf, own, name, id) {
-            continue;
-        }
+    let mut next = next_candidate(target, ttable, tbtf, own, name, 0);
+    while next <= tbtf.last as u64 {
+        let id = next as u32;
+        next = next_candidate(target, ttable, tbtf, own, name, next + 1);
         let event = type_event(local, ltable, lbtf, target, ttable, tbtf, relo, id);
         match event {
             Event::Nothing => {}
@@ -215,10 +237,10 @@ fn enum_matches(
     let asked = entry_of(local, ltable, lbtf, of, index);
     let variant = text_of(local, lbtf, asked.name);
     let mut kept = Matches::Unmatched;
-    'candidates: for id in 0..=tbtf.last {
-        if !is_candidate(target, ttable, tbtf, own, name, id) {
-            continue 'candidates;
-        }
+    let mut next = next_candidate(target, ttable, tbtf, own, name, 0);
+    'candidates: while next <= tbtf.last as u64 {
+        let id = next as u32;
+        next = next_candidate(target, ttable, tbtf, own, name, next + 1);
         let Resolved::At(e) = resolve_type(target, ttable, tbtf, id) else {
             return Matches::Halted(Refusal::Unresolved);
         };
@@ -353,10 +375,10 @@ fn field_matches(
     let own = kind_of(local, ltable, lbtf, relo.typ);
     let name = type_name(local, ltable, lbtf, relo.typ);
     let mut kept = Matches::Unmatched;
-    for id in 0..=tbtf.last {
-        if !is_candidate(target, ttable, tbtf, own, name, id) {
-            continue;
-        }
+    let mut next = next_candidate(target, ttable, tbtf, own, name, 0);
+    while next <= tbtf.last as u64 {
+        let id = next as u32;
+        next = next_candidate(target, ttable, tbtf, own, name, next + 1);
         let found = followed(local, ltable, lbtf, target, ttable, tbtf, steps, count, id);
         let event = field_event(target, ttable, tbtf, relo.kind, mine, found);
         match event {
