@@ -10,8 +10,8 @@
 #include "leamugi.h"
 
 /* docs/SCOPE.md, section 2; the kernel's BTF document; the sizes of lent things */
-#define MAX_BYTES 4194304
-#define MAX_TYPES 65535
+#define MAX_BYTES 16777216
+#define MAX_TYPES 1048575
 #define MAX_INSNS 4096
 #define RECORD 16
 #define SAID 6 /* the most entries of `said` that are lent, one more than is written */
