@@ -3,23 +3,58 @@
 use Prim.Native.Nat.{ℕ, zero, suc, _+_, _-_, _≤_, _<_}
 use mathlib.Core.Path.{_≡_, refl, sym, ap, _∙_}
 use mathlib.Core.Bool.{Bool, true, false, cond, _&&_}
-use mathlib.Core.List.{List}
+use mathlib.Core.List.{List, [], _∷_}
 use native.Mathlib.Omega.{arith}
 use native.Mathlib.Nat.{sub-zero, zero-add, add-zero}
 use lib.ListN.{length}
 use lib.Dec.{leb, ltb}
 use borrow.Author.Tests.{lt-ltb, le-ltb, le-leb, lt-leb, ltb-true, leb-true}
-use Rattle.kinds.specs.Types.{typeAt, typeBytes, after}
-use Rattle.btf.specs.declared.Step.the-variants.{Next, Fault as Off}
+use Rattle.kinds.specs.declared.Entry.{Entry}
+use Rattle.kinds.specs.Types.{Ty, typeAt, after}
+use Rattle.pass.specs.declared.Step.the-variants.{Next, Fault as Off}
 use Rattle.btf.specs.declared.Scan.{Scan}
 use Rattle.btf.specs.declared.Scan.the-variants.{Count, Fault as Stop, Over as Many}
-use Rattle.btf.specs.Accept.{scan, fits, unfit, firstOr, thenFits}
-use Rattle.btf.specs.declared.Reach.{Reach}
-use Rattle.btf.specs.Step.{stepAt}
-use Rattle.btf.specs.Tests.{and-false, and-l, and-r}
-use Rattle.btf.specs.ScanLaws.{told-next, Scanned, scanned-first, scanned-next, scanned-fault, scanned-many, scanned-end, Walking, walking-first, walking-next}
-use Rattle.btf.specs.Reach.{larger, reach, reachOf, within}
-use Rattle.btf.specs.ReachLaws.{larger-ltb, larger-leb, type-fits}
+use Rattle.btf.specs.Accept.{scan, allFit, fits, unfit, firstOr, thenFits}
+use Rattle.pass.specs.Step.{stepAt}
+use Rattle.pass.specs.Laws.{and-false, and-l, and-r, told-next, told-fault, larger-ltb, larger-leb}
+use Rattle.btf.specs.ScanLaws.{Scanned, scanned-first, scanned-next, scanned-many, scanned-end, Walking, walking-first, walking-good, walking-next}
+use Rattle.pass.specs.Reach.{larger, largest, names, ids, reach, listReach, reachOf, within}
+
+-- tests in another order
+both : (a b c d : Bool) → (a && b) && (c && d) ≡ (a && c) && (b && d)
+both true true c d = refl
+both true false true d = refl
+both true false false d = refl
+both false b c d = refl
+
+-- a list fits where its reach does
+pub list-fits : (room last : ℕ) → 0 < room → (es : List Entry) → allFit room last es ≡ within room last (listReach es)
+unfolding allFit largest
+list-fits room last h [] = rw (lt-ltb 0 room h, le-leb 0 last (omega arith))
+list-fits room last h (e ∷ es) =
+    rw (list-fits room last h es, larger-ltb (e .name) (names es) room, larger-leb (e .typ) (ids es) last)
+    (both (ltb (e .name) room) (leb (e .typ) last) (ltb (names es) room) (leb (ids es) last))
+
+-- and so does a type
+pub type-fits : (room last : ℕ) (ty : Ty) → fits room last ty ≡ within room last (reachOf ty)
+unfolding fits
+type-fits room last ty =
+    rw (larger-ltb (ty .name) (names (ty .entries)) room, larger-leb (ty .ref) (larger (ty .index) (ids (ty .entries))) last, larger-leb (ty .index) (ids (ty .entries)) last)
+    (go (ltb (ty .name) room) refl)
+  where
+    order : (b c d e : Bool) → c && (d && (b && e)) ≡ b && (c && (d && e))
+    order true c d e = refl
+    order false true true e = refl
+    order false true false e = refl
+    order false false d e = refl
+
+    go : (a : Bool) → ltb (ty .name) room ≡ a
+        → a && (leb (ty .ref) last && (leb (ty .index) last && allFit room last (ty .entries)))
+        ≡ (a && ltb (names (ty .entries)) room) && (leb (ty .ref) last && (leb (ty .index) last && leb (ids (ty .entries)) last))
+    go true p =
+        rw (list-fits room last (omega (arith, ltb-true (ty .name) room p)) (ty .entries))
+        (order (ltb (names (ty .entries)) room) (leb (ty .ref) last) (leb (ty .index) last) (leb (ids (ty .entries)) last))
+    go false p = refl
 
 -- the second pass
 pub record Fitting (most : ℕ) (t : List ℕ) (room last at n : ℕ) : Type 0 where
@@ -36,27 +71,31 @@ module _ {most : ℕ} {t : List ℕ} {room last at n : ℕ} (i : Fitting most t 
     unfolding unfit
     one = let q : last - n ≡ suc (last - (n + 1)) = omega arith in ap (λ (k : ℕ). unfit t room last k at n) q
 
-    module _ {r : Reach} (p : r ≡ reachOf (typeAt t at)) where
-      told : (b : Bool) → within room last r ≡ b → fits room last (typeAt t at) ≡ b
-      told b q = type-fits room last (typeAt t at) ∙ ap (within room last) (sym p) ∙ q
+    module _ {x far top : ℕ} (p : Next x far top ≡ stepAt t at) where
+      told : (b : Bool) → within room last (reach far top) ≡ b → fits room last (typeAt t at) ≡ b
+      told b q = type-fits room last (typeAt t at) ∙ ap (within room last) (sym (told-next t at p .2)) ∙ q
 
-      bad-one : within room last r ≡ false → n + 1 ≡ unfit t room last last 0 0
+      bad-one : within room last (reach far top) ≡ false → n + 1 ≡ unfit t room last last 0 0
       bad-one q = sym (i .same ∙ one ∙ rw (told false q))
 
-      pub fitting-far : room ≤ r .far → n + 1 ≡ unfit t room last last 0 0
-      fitting-far q = bad-one (rw (le-ltb (r .far) room q))
+      pub fitting-far : room ≤ far → n + 1 ≡ unfit t room last last 0 0
+      fitting-far q = bad-one (rw (le-ltb far room q))
 
-      pub fitting-top : last < r .top → n + 1 ≡ unfit t room last last 0 0
-      fitting-top q = bad-one (rw (lt-leb (r .top) last q) (simp and-false))
+      pub fitting-top : last < top → n + 1 ≡ unfit t room last last 0 0
+      fitting-top q = bad-one (rw (lt-leb top last q) (simp and-false))
 
-      pub fitting-next : {x : ℕ} → r .far < room → r .top ≤ last → x ≡ typeBytes t at → Fitting most t room last (at + x) (n + 1)
-      fitting-next f g e =
-          let q : within room last r ≡ true = rw (lt-ltb (r .far) room f, le-leb (r .top) last g) in
-          record {
-            walk = rw e (walking-next (i .walk) h);
-            upto = omega arith;
-            same = i .same ∙ one ∙ rw (told true q, e);
-          }
+      pub fitting-next : far < room → top ≤ last → Fitting most t room last x (n + 1)
+      fitting-next f g =
+          let q : within room last (reach far top) ≡ true = rw (lt-ltb far room f, le-leb top last g) in
+          let y : x ≡ after t at = told-next t at p .1 in
+          record { walk = rw y (walking-next (i .walk) h); upto = omega arith; same = i .same ∙ one ∙ rw (told true q, y) }
+
+    -- every type has passed before: none is at fault
+    pub fitting-passes : Off ≡ stepAt t at → ⊥
+    fitting-passes p =
+        let q : true ≡ false = sym (walking-good (i .walk) h) ∙ told-fault t at p in
+        let z : _≡_ {A = ℕ} 0 1 = cc in
+        omega arith
 
   pub fitting-end : last ≤ n → 0 ≡ unfit t room last last 0 0
   unfolding unfit
@@ -76,9 +115,6 @@ surveyed-first most t = record { scanned = scanned-first most t; skip = λ room 
 
 module _ {most : ℕ} {t : List ℕ} {far top at n : ℕ} (i : Surveyed most t far top at n) where
   module _ (h : at < length t) (m : n ≡ most → ⊥) where
-    pub surveyed-less : {x f g : ℕ} → Next x f g ≡ stepAt t at → length t - x < length t - at
-    surveyed-less p = scanned-next (i .scanned) h m p .1
-
     pub surveyed-next : {x a b f g : ℕ} → Next x a b ≡ stepAt t at → f ≡ larger far a → g ≡ larger top b → Surveyed most t f g x (n + 1)
     unfolding unfit
     surveyed-next {x} {a} {b} {f} {g} p ef eg = record { scanned = scanned-next (i .scanned) h m p .0; skip = skips }
@@ -99,9 +135,6 @@ module _ {most : ℕ} {t : List ℕ} {far top at n : ℕ} (i : Surveyed most t f
             let o = fit-one room last (rw (lt-ltb f room hf, le-leb g last hg)) in
             let y : x ≡ after t at = told-next t at p .1 in
             ap (λ (j : ℕ). unfit t room last j 0 0) e ∙ i .skip room last (suc k) (o .0) (o .1) ∙ rw (o .2, y)
-
-    pub surveyed-fault : (room : ℕ) → Off ≡ stepAt t at → Stop (n + 1) ≡ thenFits t room (scan t most 0 0)
-    surveyed-fault room p = rw (← scanned-fault (i .scanned) h m p)
 
   pub surveyed-many : (room : ℕ) → at < length t → n ≡ most → Many ≡ thenFits t room (scan t most 0 0)
   surveyed-many room h m = rw (← scanned-many (i .scanned) h m)

@@ -12,7 +12,7 @@ use Rattle.words.specs.Num.{half, word}
 use Rattle.btf.specs.declared.Btf.{Btf}
 use Rattle.btf.specs.declared.Head.the-variants.{Sections, Broken}
 use Rattle.btf.specs.Sections.{begins, headerLength, placed, lies, headOf, stringsFine}
-use Rattle.btf.specs.Tests.{and-false}
+use Rattle.pass.specs.Tests.{and-false}
 
 -- the header
 module _ (s : List ℕ) where

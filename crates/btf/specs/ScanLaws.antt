@@ -2,101 +2,36 @@
 -- Assumes nothing.
 use Prim.Native.Nat.{ℕ, zero, suc, _+_, _-_, _≤_, _<_}
 use mathlib.Core.Path.{_≡_, refl, sym, ap, _∙_}
-use mathlib.Core.Bool.{Bool, true, false, cond, _&&_, _||_}
+use mathlib.Core.Bool.{Bool, true, false, cond}
 use mathlib.Core.List.{List}
 use native.Mathlib.Omega.{arith}
 use native.Mathlib.Nat.{sub-zero}
+use native.Mathlib.Numerals.{add-one}
 use native.Mathlib.Decide.{decLt}
 use lib.ListN.{length}
-use lib.Dec.{leb, ltb, eqb}
-use borrow.Author.Tests.{lt-ltb, le-ltb, leb-true, eq-eqb, ne-eqb}
-use Rattle.words.specs.Num.{word}
-use Rattle.kinds.specs.Kinds.{isKind, encodes, hasType, extraBytes}
-use Rattle.kinds.specs.Types.{kindAt, extraAt, typeAt, typeBytes, after}
-use Rattle.btf.specs.declared.Step.the-variants.{Next, Fault as Off}
+use lib.Dec.{ltb}
+use borrow.Author.Tests.{lt-ltb, le-ltb}
+use Rattle.kinds.specs.Types.{after}
+use Rattle.pass.specs.declared.Step.the-variants.{Next, Fault as Off}
 use Rattle.btf.specs.declared.Scan.{Scan}
 use Rattle.btf.specs.declared.Scan.the-variants.{Count, Fault as Stop, Over as Many}
-use Rattle.btf.specs.Accept.{encodingFine, good, scan}
-use Rattle.btf.specs.Reach.{reach, reachOf}
-use Rattle.btf.specs.Step.{stepAt}
-use Rattle.btf.specs.Tests.{and-l, and-r}
+use Rattle.pass.specs.Good.{good}
+use Rattle.btf.specs.Accept.{scan}
+use Rattle.pass.specs.Step.{stepAt}
+use Rattle.pass.specs.Laws.{least, told-next, told-fault, good-fits}
 
--- a type takes twelve bytes at least
-pub least : (t : List ℕ) (at : ℕ) → 12 ≤ typeBytes t at
-unfolding typeBytes
-least t at = omega arith
+-- where the type after n others begins
+unfoldable pub placeOf : List ℕ → ℕ → ℕ
+placeOf t zero = 0
+placeOf t (suc n) = after t (placeOf t n)
 
--- the words that a kind keeps behind its twelve bytes lie in the section with it, and are fields of the type
-module _ (t : List ℕ) (at : ℕ) {k : ℕ} (e : k ≡ typeAt t at .kind) where
-  kind-there : kindAt t at ≡ k
-  unfolding typeAt
-  kind-there = sym e
+pub place-first : (t : List ℕ) → 0 ≡ placeOf t 0
+unfolding placeOf
+place-first t = refl
 
-  module _ (h : k ≡ 1) where
-    pub int-word : {x : ℕ} → x ≡ word t (at + 12) → x ≡ typeAt t at .extra
-    unfolding typeAt extraAt extraBytes
-    int-word p = p ∙ rw (kind-there, h)
-
-  module _ (h : k ≡ 3) where
-    pub array-room : at + 24 ≤ after t at
-    unfolding typeBytes extraBytes
-    array-room = rw (kind-there, h) (omega arith)
-
-    pub array-element : {x : ℕ} → x ≡ word t (at + 12) → x ≡ typeAt t at .ref
-    unfolding typeAt extraAt extraBytes hasType
-    array-element p = p ∙ rw (kind-there, h)
-
-    pub array-index : {x : ℕ} → x ≡ word t (at + 16) → x ≡ typeAt t at .index
-    unfolding typeAt extraAt extraBytes
-    array-index p = p ∙ rw (kind-there, h)
-
-  pub no-index : (k ≡ 3 → ⊥) → 0 ≡ typeAt t at .index
-  unfolding typeAt extraAt extraBytes
-  no-index h = rw (kind-there, ne-eqb k 3 h) (go (eqb k 1 || eqb k 14 || eqb k 17))
-    where
-      go : (b : Bool) → 0 ≡ cond (leb 8 (cond b 4 0)) (word t (at + 16)) 0
-      go true = refl
-      go false = refl
-
--- one type
-module _ (t : List ℕ) (at : ℕ) where
-  -- what a step tells
-  pub told-next : {x f g : ℕ} → Next x f g ≡ stepAt t at → (good t at ≡ true) × (x ≡ after t at) × (reach f g ≡ reachOf (typeAt t at))
-  unfolding stepAt
-  told-next {x} {f} {g} = go (good t at)
-    where
-      go : (b : Bool) → Next x f g ≡ cond b (Next (after t at) (reachOf (typeAt t at) .far) (reachOf (typeAt t at) .top)) Off
-          → (b ≡ true) × (x ≡ after t at) × (reach f g ≡ reachOf (typeAt t at))
-      go true h =
-          let p : f ≡ reachOf (typeAt t at) .far = cc in
-          let q : g ≡ reachOf (typeAt t at) .top = cc in
-          (refl, cc, rw (p, q))
-      go false h = let y : _≡_ {A = ℕ} 0 1 = cc in absurd (omega arith)
-
-  pub told-fault : Off ≡ stepAt t at → good t at ≡ false
-  unfolding stepAt
-  told-fault = go (good t at)
-    where
-      go : (b : Bool) → Off ≡ cond b (Next (after t at) (reachOf (typeAt t at) .far) (reachOf (typeAt t at) .top)) Off → b ≡ false
-      go true h = cc
-      go false h = refl
-
-  -- a good type lies in the section
-  pub good-fits : good t at ≡ true → after t at ≤ length t
-  unfolding good
-  good-fits h =
-      leb-true (after t at) (length t)
-      (and-l (leb (after t at) (length t)) (encodingFine (typeAt t at))
-      (and-r (isKind (kindAt t at)) (leb (after t at) (length t) && encodingFine (typeAt t at))
-      (and-r (leb (at + 12) (length t)) (isKind (kindAt t at) && (leb (after t at) (length t) && encodingFine (typeAt t at))) h)))
-
-  pub int-is : {k x : ℕ} {b : Bool} → k ≡ typeAt t at .kind → k ≡ 1 → x ≡ typeAt t at .extra → b ≡ encodes x → b ≡ encodingFine (typeAt t at)
-  unfolding encodingFine
-  int-is {k} e h p q = q ∙ rw (p, ← e, eq-eqb k 1 h)
-
-  pub int-not : {k : ℕ} → k ≡ typeAt t at .kind → (k ≡ 1 → ⊥) → true ≡ encodingFine (typeAt t at)
-  unfolding encodingFine
-  int-not {k} e h = rw (← e, ne-eqb k 1 h)
+pub place-next : (t : List ℕ) (n : ℕ) → placeOf t (n + 1) ≡ after t (placeOf t n)
+unfolding placeOf
+place-next t n = rw (add-one n)
 
 -- a turn of the scan, where `most` types are allowed and n have passed
 module _ (t : List ℕ) (most at n : ℕ) (few : n < most) (h : at < length t) where
@@ -140,10 +75,12 @@ scan-most t (suc left) at n last h =
 pub record Scanned (most : ℕ) (t : List ℕ) (at n : ℕ) : Type 0 where
   pub few : n ≤ most
   pub high : at ≤ length t
+  pub place : at ≡ placeOf t n
   pub same : scan t most 0 0 ≡ scan t (most - n) at n
 
 pub scanned-first : (most : ℕ) (t : List ℕ) → Scanned most t 0 0
-scanned-first most t = record { few = omega arith; high = omega arith; same = rw sub-zero }
+unfolding placeOf
+scanned-first most t = record { few = omega arith; high = omega arith; place = refl; same = rw sub-zero }
 
 module _ {most : ℕ} {t : List ℕ} {at n : ℕ} (i : Scanned most t at n) where
   pub scanned-next : {x f g : ℕ} → at < length t → (n ≡ most → ⊥) → Next x f g ≡ stepAt t at → Scanned most t x (n + 1) × (length t - x < length t - at)
@@ -153,6 +90,7 @@ module _ {most : ℕ} {t : List ℕ} {at n : ℕ} (i : Scanned most t at n) wher
         record {
           few = omega (arith, i .few);
           high = omega arith;
+          place = q .1 ∙ ap (λ (a : ℕ). after t a) (i .place) ∙ sym (place-next t n);
           same = i .same ∙ scan-go t most at n (omega (arith, i .few)) h (q .0) ∙ rw (← q .1);
         },
         omega (arith, least t at),
@@ -180,8 +118,8 @@ pub walking-most : {most : ℕ} {t : List ℕ} {last : ℕ} → Walking most t l
 walking-most {most} {t} {last} w = omega (arith, scan-most t (most - 0) 0 0 last (w .rest))
 
 module _ {most : ℕ} {t : List ℕ} {last at n : ℕ} (i : Walking most t last at n) (h : n < last) where
-  inside : at < length t
-  inside = go (decLt at (length t))
+  pub walking-inside : at < length t
+  walking-inside = go (decLt at (length t))
     where
       go : Dec (at < length t) → at < length t
       go (yes p) = p
@@ -196,7 +134,7 @@ module _ {most : ℕ} {t : List ℕ} {last at n : ℕ} (i : Walking most t last 
       go : Dec (n < most) → n < most
       go (yes p) = p
       go (no p) =
-          let q : Count last ≡ Many = sym (i .rest) ∙ scan-many t (most - n) at n (omega arith) inside in
+          let q : Count last ≡ Many = sym (i .rest) ∙ scan-many t (most - n) at n (omega arith) walking-inside in
           let z : _≡_ {A = ℕ} 0 1 = cc in
           absurd (omega arith)
 
@@ -206,19 +144,32 @@ module _ {most : ℕ} {t : List ℕ} {last at n : ℕ} (i : Walking most t last 
       go : (b : Bool) → good t at ≡ b → good t at ≡ true
       go true g = g
       go false g =
-          let q : Count last ≡ Stop (n + 1) = sym (i .rest) ∙ scan-stop t most at n room inside g in
+          let q : Count last ≡ Stop (n + 1) = sym (i .rest) ∙ scan-stop t most at n room walking-inside g in
           let z : _≡_ {A = ℕ} 0 1 = cc in
           absurd (omega arith)
 
   pub walking-fits : after t at ≤ length t
   walking-fits = good-fits t at walking-good
 
-  pub walking-twelve : at + 12 ≤ length t
-  walking-twelve = omega (arith, walking-fits, least t at)
-
   pub walking-next : Walking most t last (after t at) (n + 1)
   walking-next = record {
     few = omega (arith, room);
     high = walking-fits;
-    rest = sym (scan-go t most at n room inside walking-good) ∙ i .rest;
+    rest = sym (scan-go t most at n room walking-inside walking-good) ∙ i .rest;
   }
+
+-- so it is after any number of them
+pub walking-at : {most : ℕ} {t : List ℕ} {last : ℕ} → Walking most t last 0 0 → (n : ℕ) → n ≤ last → Walking most t last (placeOf t n) n
+unfolding placeOf
+walking-at w zero h = w
+walking-at w (suc n) h = rw (← add-one n) (walking-next (walking-at w n (omega arith)) (omega arith))
+
+-- the first n types lie in the section
+abbrev pub Lies : List ℕ → ℕ → Type 0
+Lies t n = (k : ℕ) → k < n → after t (placeOf t k) ≤ length t
+
+pub walking-lies : {most : ℕ} {t : List ℕ} {last : ℕ} → Walking most t last 0 0 → Lies t last
+walking-lies w k h = walking-fits (walking-at w k (omega arith)) h
+
+pub lies-at : (t : List ℕ) (n : ℕ) {m at : ℕ} → Lies t m → at ≡ placeOf t n → n < m → after t at ≤ length t
+lies-at t n l p h = rw p (l n h)

@@ -22,7 +22,7 @@ use Rattle.btf.specs.Sections.{headOf, typesIn, stringsIn, stringsFine}
 use Rattle.btf.specs.Accept.{scan, unfit, firstOr, thenFits, checked, ending, whole, inSections, accepted}
 use Rattle.btf.specs.Table.{laid, decode, tabled}
 use Rattle.btf.specs.HeaderLaws.{told-head}
-use Rattle.btf.specs.ScanLaws.{Walking, walking-first, walking-most}
+use Rattle.btf.specs.ScanLaws.{Walking, walking-first, walking-most, Lies, walking-lies}
 
 -- what is known of sections that are accepted
 pub record Sound (most : ℕ) (t z : List ℕ) (n : ℕ) : Type 0 where
@@ -109,10 +109,14 @@ told-accepted s b = go (leb (length s) maxBytes) refl
 pub types-length : {s : List ℕ} {b : Btf} → Known s b → length (typesIn s b) ≡ b .types .size
 types-length {s} {b} k = section-length s (b .types .start) (b .types .size) (k .types)
 
--- what the third pass asks
-pub known-fill : {s : List ℕ} {b : Btf} {t : List ℕ} → Known s b → t ≡ typesIn s b → (b .types .start + length t ≤ maxBytes) × Walking maxTypes t (b .last) 0 0
+-- what the last pass asks
+pub known-fill : {s : List ℕ} {b : Btf} {t : List ℕ} → Known s b → t ≡ typesIn s b → (b .types .start + length t ≤ maxBytes) × Lies t (b .last)
 known-fill {s} {b} {t} k e =
-    let l : length t ≡ b .types .size = ap length e ∙ types-length k in (omega (arith, k .types, k .small), rw e (k .sound .walk))
+    let l : length t ≡ b .types .size = ap length e ∙ types-length k in (omega (arith, k .types, k .small), rw e (walking-lies (k .sound .walk)))
+
+-- a types section is no longer than the bytes
+pub types-small : (s : List ℕ) {b : Btf} {t : List ℕ} → Sections b ≡ headOf s → t ≡ typesIn s b → length t ≤ length s
+types-small s {b} p e = let k = told-head s p in omega (arith, k, ap length e ∙ section-length s (b .types .start) (b .types .size) (k .0))
 
 pub known-most : {s : List ℕ} {b : Btf} → Known s b → b .last ≤ maxTypes
 known-most k = walking-most (k .sound .walk)

@@ -10,7 +10,8 @@ use Rattle.kinds.specs.Types.{extraAt, entryAt, entriesAt, entryCount, typeAt, 
 use Rattle.btf.specs.declared.Btf.{Btf}
 use Rattle.btf.specs.declared.Whole.the-variants.{Accepted, Bad}
 use Rattle.btf.specs.Sections.{begins, headOf, stringsFine}
-use Rattle.btf.specs.Accept.{encodingFine, good, scan, allFit, fits, unfit, checked, accepted}
+use Rattle.pass.specs.Good.{encodingFine, good}
+use Rattle.btf.specs.Accept.{scan, allFit, fits, unfit, checked, accepted}
 use Rattle.btf.specs.Table.{offsets, laid, decode, tabled}
 use Rattle.btf.specs.Number.{number, returned, said}
 use Rattle.view.specs.Text.{cut, textAt}

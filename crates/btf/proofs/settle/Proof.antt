@@ -1,7 +1,6 @@
 -- `btf::settle` meets its contract.
 -- Assumes nothing.
 use Rattle.btf.specs.Laws.{settle-fine, settle-unfit, settle-good}
-use borrow.Author.Needs.{needs}
 use Rattle.btf.proofs.settle.Statement.{statement}
 use Rattle.btf.proofs.settle.Tie as tie
 

@@ -1,53 +1,61 @@
 -- `btf::survey` meets its contract.
 -- Assumes nothing.
 use native.Mathlib.Omega.{arith}
-use mathlib.Core.Path.{sym, _∙_}
+use mathlib.Core.Path.{_∙_}
 use Prim.Native.Nat.{_-_}
-use lib.ListN.{length}
-use Rattle.btf.specs.Limits.{maxTypes}
-use Rattle.btf.specs.Laws.{Surveyed, surveyed-first, surveyed-many, surveyed-fault, surveyed-less, surveyed-next, surveyed-walks, surveyed-reached, surveyed-end}
+use lib.ListN.{length, set, length-set}
+use Rattle.btf.specs.Laws.{Marking, marking-first, marking-index, marking-less, marking-next, unmarked-many, unmarked-fault, marking-counts, marking-fault, surveyed-many, surveyed-walks, surveyed-reached, surveyed-end}
 use borrow.Author.Needs.{needs}
 use Rattle.btf.proofs.survey.Statement.{statement}
 use Rattle.btf.proofs.survey.Tie as tie
 
 abbrev Inv-loop : tie.InvT-loop
-Inv-loop types room at₀ n₀ far₀ top₀ at n far top = Surveyed maxTypes types far top at n
+Inv-loop types room marks₀ at₀ n₀ far₀ top₀ j₀ marks at n far top j = Marking types marks₀ marks far top at n j
 
 abbrev μ-loop : tie.MeasureT-loop
-μ-loop types room at₀ n₀ far₀ top₀ at n far top = length types - at
+μ-loop types room marks₀ at₀ n₀ far₀ top₀ j₀ marks at n far top j = length types - at
 
 loop-holds : tie.Need-loop-holds Inv-loop μ-loop
-loop-holds c = surveyed-first _ _
+loop-holds c = marking-first _ _
+
+same-length : tie.Need-same-length Inv-loop μ-loop
+same-length c = c .before .before .loop .inv .len
 
 returns : tie.Need-returns Inv-loop μ-loop
-returns c = surveyed-many (c .before .before .loop .inv) _ (c .before .loop-test .taken) (c .if1 .taken)
+returns c = (surveyed-many (c .before .before .loop .inv .seen) _ (c .before .loop-test .taken) (c .if1 .taken), unmarked-many _ (c .before .before .loop .marks))
 
-pass-requires : tie.Need-pass-requires Inv-loop μ-loop
-pass-requires c κs = c .before .before .loop .inv .scanned .high
+cast-marks : tie.Need-cast-marks Inv-loop μ-loop
+cast-marks c = omega (arith, c .before .loop-test .taken, c .before .before .before .before .before .pre .0)
 
-add-t13 : tie.Need-add-t13 Inv-loop μ-loop
-add-t13 c = omega (arith, c .before .before .before .before .before .loop .inv .scanned .few)
+mul-marks : tie.Need-mul-marks Inv-loop μ-loop
+mul-marks c = omega (arith, marking-index (c .before .before .loop .inv) (c .before .loop-test .taken) (c .if1 .left))
+
+slice-write-marks : tie.Need-slice-write-marks Inv-loop μ-loop
+slice-write-marks c = omega (arith, c .before .before .loop .inv .len, marking-index (c .before .before .loop .inv) (c .before .loop-test .taken) (c .if1 .left), c .before .before .before .before .before .pre .1)
+
+same-length-2 : tie.Need-same-length-2 Inv-loop μ-loop
+same-length-2 c = length-set (c .before .before .before .before .before .before .before .loop .marks) (c .before .before .before .before .before .before .before .loop .j) (c .before .before .before .before .before .before .before .loop .at) ∙ c .before .before .before .before .before .before .before .loop .inv .len
 
 returns-2 : tie.Need-returns-2 Inv-loop μ-loop
-returns-2 c =
-    surveyed-fault (c .before .before .before .before .before .loop .inv) (c .before .before .before .before .loop-test .taken) (c .before .before .before .if1 .left) _ (sym (c .enum-told .given .1) ∙ c .before .before .pass .ensures)
+returns-2 c = (marking-fault (c .before .before .before .before .before .before .before .loop .inv) (c .before .before .before .before .before .before .loop-test .taken) (c .before .before .before .before .before .if1 .left) (c .before .before .before .before .next-stop .ensures) (c .before .before .before .stretch .ensures) _ (c .before .s .given .1), unmarked-fault (c .before .before .before .before .before .before .before .before .before .before .args .types .now) (set (c .before .before .before .before .before .before .before .loop .marks) (c .before .before .before .before .before .before .before .loop .j) (c .before .before .before .before .before .before .before .loop .at)) _)
 
-add-n : tie.Need-add-n Inv-loop μ-loop
-add-n c = omega (arith, c .before .before .before .before .before .before .before .before .loop .inv .scanned .few)
+add-j : tie.Need-add-j Inv-loop μ-loop
+add-j c = omega (arith, marking-index (c .before .before .before .before .before .before .before .loop .inv) (c .before .before .before .before .before .before .loop-test .taken) (c .before .before .before .before .before .if1 .left))
 
 loop-less : tie.Need-loop-less Inv-loop μ-loop
-loop-less c =
-    surveyed-less (c .before .before .before .before .before .before .before .before .loop .inv) (c .before .before .before .before .before .before .before .loop-test .taken) (c .before .before .before .before .before .before .if1 .left) (sym (c .before .before .before .st .given .1) ∙ c .before .before .before .before .before .pass .ensures)
+loop-less c = marking-less (c .before .before .before .before .before .before .before .loop .inv) (c .before .before .before .before .before .before .loop-test .taken) (c .before .before .before .before .before .if1 .left) (c .before .before .before .before .next-stop .ensures) (c .before .before .before .stretch .ensures) (c .before .s2 .given .1)
 
 loop-again : tie.Need-loop-again Inv-loop μ-loop
-loop-again c =
-    surveyed-next (c .before .before .before .before .before .before .before .before .loop .inv) (c .before .before .before .before .before .before .before .loop-test .taken) (c .before .before .before .before .before .before .if1 .left) (sym (c .before .before .before .st .given .1) ∙ c .before .before .before .before .before .pass .ensures) (c .before .larger-of .ensures) (c .larger-of2 .ensures)
+loop-again c = marking-next (c .before .before .before .before .before .before .before .loop .inv) (c .before .before .before .before .before .before .loop-test .taken) (c .before .before .before .before .before .if1 .left) (c .before .before .before .before .next-stop .ensures) (c .before .before .before .stretch .ensures) (c .before .s2 .given .1) (c .before .before .before .before .before .before .before .before .before .before .pre .1)
 
 settle-requires : tie.Need-settle-requires Inv-loop μ-loop
-settle-requires c κs = (surveyed-walks (c .before .loop .inv) (c .loop-test .left), surveyed-reached (c .before .loop .inv) (c .loop-test .left))
+settle-requires c κs = (surveyed-walks (c .before .loop .inv .seen) (c .loop-test .left), surveyed-reached (c .before .loop .inv .seen) (c .loop-test .left))
+
+same-length-3 : tie.Need-same-length-3 Inv-loop μ-loop
+same-length-3 c = c .before .before .loop .inv .len
 
 returns-3 : tie.Need-returns-3 Inv-loop μ-loop
-returns-3 c = surveyed-end (c .before .before .loop .inv) (c .before .loop-test .left) _ (c .settle .ensures)
+returns-3 c = (surveyed-end (c .before .before .loop .inv .seen) (c .before .loop-test .left) _ (c .settle .ensures), marking-counts (c .before .before .loop .inv) (c .before .before .before .before .before .args .room) (c .settle .ensures))
 
 pub survey-spec : {M : Type 1} → statement M
 survey-spec =
@@ -56,16 +64,20 @@ survey-spec =
     Inv-loop
     μ-loop
     loop-holds
+    same-length
     returns
-    pass-requires
+    cast-marks
+    mul-marks
+    slice-write-marks
+    (λ c κs. search needs)
+    (λ c κs. search needs)
     (λ c. search needs)
-    (λ c. search needs)
-    add-t13
+    same-length-2
     returns-2
-    (λ c κs. search needs)
-    (λ c κs. search needs)
-    add-n
+    (λ c. search needs)
+    add-j
     loop-less
     loop-again
     settle-requires
+    same-length-3
     returns-3)

@@ -1,9 +1,0 @@
--- `btf::lesser_of` meets its contract.
--- Assumes nothing.
-use Rattle.btf.specs.Laws.{lesser-left, lesser-right}
-use borrow.Author.Needs.{needs}
-use Rattle.btf.proofs.lesser_of.Statement.{statement}
-use Rattle.btf.proofs.lesser_of.Tie as tie
-
-pub lesser-of-spec : {M : Type 1} → statement M
-lesser-of-spec = tie.close (tie.spec (λ c. lesser-left _ _ (c .if1 .taken)) (λ c. lesser-right _ _ (c .if1 .left)))

@@ -1,0 +1,13 @@
+-- `pass::kind_in` meets its contract.
+-- Assumes nothing.
+use Rattle.kinds.specs.Types.{typeAt}
+use borrow.Author.Needs.{needs}
+use Rattle.pass.proofs.kind_in.Statement.{statement}
+use Rattle.pass.proofs.kind_in.Tie as tie
+
+returns : tie.Need-returns
+unfolding typeAt
+returns c = rw (c .u32-in .ensures)
+
+pub kind-in-spec : {M : Type 1} → statement M
+kind-in-spec = tie.close (tie.spec (λ c. search needs) (λ c κs. search needs) returns)
