@@ -1,44 +1,14 @@
--- Laws of an access by its record's kind, and of the parts that it is given.
+-- Laws of an access by its record's kind.
 -- Assumes nothing.
-use mathlib.Core.Path.{_≡_, refl, sym, ap, _∙_}
+use mathlib.Core.Path.{_≡_}
 use mathlib.Core.List.{List}
 use Prim.Native.Nat.{ℕ, _≤_, _<_}
-use native.Mathlib.Omega.{arith}
 use borrow.Author.Tests.{eq-eqb, ne-eqb, le-leb, lt-leb, lt-ltb, le-ltb}
-use lib.ListN.{length, getD, take}
-use lib.Seq.{length-take-le, take-all, getD-take}
+use lib.ListN.{length, getD}
 use Rattle.view.specs.View.{View}
 use Rattle.rules.specs.declared.Refusal.the-variants.{BadAccess, IndexTooBig}
 use Rattle.rules.specs.Refusal.{ok, refused}
 use Rattle.rules.specs.Access.{whole, variant, fieldAccess, typeAccess, variantAt, enumAccess, localAccess}
-use Rattle.access.specs.declared.text.Parsed.{Parsed}
-use Rattle.access.specs.Replies.{Counted}
-
--- the parts that count
-pub counted-all : (p : Parsed) → length (p .parts) ≡ 64 → 64 < p .count → Counted p 64
-counted-all p e h =
-    let all : take (p .count) (p .parts) ≡ p .parts = take-all (p .count) (p .parts) (omega arith) in
-    record {
-      few = omega arith;
-      long = sym (ap length all ∙ e);
-      all = take-all 64 (p .parts) (omega arith) ∙ sym all;
-      each = λ (i : ℕ) (l : i < 64). sym (ap (λ (t : List ℕ). getD t i 0) all);
-    }
-
-pub counted-some : (p : Parsed) → length (p .parts) ≡ 64 → p .count ≤ 64 → Counted p (p .count)
-counted-some p e h = record {
-  few = h;
-  long = sym (length-take-le (p .count) (p .parts) (omega arith));
-  all = refl;
-  each = λ (i : ℕ) (l : i < p .count). sym (getD-take (p .count) (p .parts) i 0 l);
-}
-
-module _ {p : Parsed} {n : ℕ} (c : Counted p n) where
-  pub counted-long : length (take n (p .parts)) ≡ n
-  counted-long = ap length (c .all) ∙ sym (c .long)
-
-  pub counted-at : (i : ℕ) → i < n → getD (p .parts) i 0 ≡ getD (take n (p .parts)) i 0
-  counted-at i h = sym (getD-take n (p .parts) i 0 h)
 
 -- a type as a whole
 module _ (ks : List ℕ) {n : ℕ} (l : n ≡ length ks) where

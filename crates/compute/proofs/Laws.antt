@@ -9,9 +9,9 @@ use lib.Seq.{take-all}
 use borrow.Author.Tests.{eq-eqb, ne-eqb, lt-ltb, le-ltb, le-leb, lt-leb}
 use types.Run.{OneOf, miss}
 use denote.Enum.Declared.{tagOf}
-use Rattle.access.proofs.walk.Reach.{the-type}
-use Rattle.access.specs.declared.walk.Reach.{Reach}
-use Rattle.access.specs.declared.walk.Reach.the-variants as Reach
+use Rattle.access.proofs.Reach.{the-type}
+use Rattle.access.specs.declared.Reach.{Reach}
+use Rattle.access.specs.declared.Reach.the-variants as Reach
 use Rattle.access.specs.Replies.{reachOf}
 use Rattle.matching.specs.Candidates.{matchesOf}
 use Rattle.view.specs.View.{View}

@@ -1,11 +1,8 @@
 // What a record writes: its local access, its matches in the target, its value; no instruction is looked at.
-use access::text::Parsed;
-use access::text::Parsing;
-use access::text::parse_access;
-use access::walk::Accessed;
-use access::walk::Reach;
-use access::walk::local_access;
-use access::walk::refuse;
+use access::Accessed;
+use access::Reach;
+use access::local_access;
+use access::refuse;
 use btf::Btf;
 use matching::match_candidates;
 use rules::Accessor;
@@ -18,6 +15,9 @@ use rules::Typing;
 use rules::Value;
 use rules::Worth;
 use rules::Write;
+use text::Parsed;
+use text::Parsing;
+use text::parse_access;
 use types::resolve_type;
 use value::Valued;
 use value::field_value;
@@ -37,7 +37,8 @@ ghost use Rattle.rules.specs.Record.{resizable, resizing, writing, absent, conc
 ghost use Rattle.rules.specs.Refusal.{bind};
 ghost use Rattle.rules.specs.Access.{last};
 ghost use Rattle.rules.specs.Value.{plain, localValue};
-ghost use Rattle.access.specs.Replies.{partsOf, accessOf};
+ghost use Rattle.text.specs.Replies.{partsOf};
+ghost use Rattle.access.specs.Replies.{accessOf};
 ghost use Rattle.value.specs.Replies.{replyOf};
 ghost use Rattle.rules.specs.Record as rule;
 ghost use Rattle.rules.specs.Call.{recordAt};

@@ -2,8 +2,6 @@
 //   local:  struct a { int n; struct { int z[4]; } s; };          the accessors of "0:1:0:2" are [0], .s, .z, [2]
 //   target: struct a { struct { long w; int z[8]; } s; };
 // From the target's a: [0] is at bit 0, .s at bit 0, .z at bit 64, [2] at bit 128.
-use access::walk::Placed;
-use access::walk::placed_element;
 use btf::Btf;
 use rules::Accessor;
 use rules::BTF_KIND_ARRAY;
@@ -16,6 +14,8 @@ use rules::Search;
 use rules::Target;
 use search::Wanted;
 use search::search_member;
+use step::Placed;
+use step::placed_element;
 use types::resolve_type;
 use value::member_of;
 use view::count_of;

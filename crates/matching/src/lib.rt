@@ -1,6 +1,6 @@
 // Candidates and what is kept of their matches: all target types, in id order from 0.
-use access::walk::Accessed;
-use access::walk::Reach;
+use access::Accessed;
+use access::Reach;
 use btf::Btf;
 use compat::types_are_compatible;
 use follow::path_step;

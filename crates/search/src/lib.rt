@@ -10,9 +10,8 @@
 // stands at bit 32. On the way back each level adds its member's bit offset and one part: bits 32, 32 + 0, 32 + 0 + 32,
 // and three parts more than before. That `pid` comes first is no matter; had an earlier member of any of the three been
 // named `y`, it would have decided.
-use access::bits::Bits;
-use access::bits::bits_sum;
-use access::walk::member_bits;
+use bits::Bits;
+use bits::bits_sum;
 use btf::Btf;
 use compat::fields_are_compatible;
 use kinds::Entry;
@@ -23,6 +22,7 @@ use rules::Refusal;
 use rules::Resolved;
 use rules::Search;
 use rules::Target;
+use step::member_bits;
 use types::is_composite;
 use types::resolve_type;
 use types::same_text;

@@ -1,5 +1,5 @@
 use mathlib.Core.Path.{ap}
-use Rattle.access.specs.declared.walk.Reach.{Reach}
+use Rattle.access.specs.declared.Reach.{Reach}
 use Rattle.access.specs.Replies.{reachOf}
 use Rattle.compute.proofs.Laws.{write-refused, write-own, write-matched}
 use borrow.Author.Needs.{needs}

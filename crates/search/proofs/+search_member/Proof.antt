@@ -8,7 +8,7 @@ use borrow.Author.Needs.{needs}
 use borrow.Fn.Kinds.{In}
 use borrow.Fn.PlainCycle.{Measures, is, falls, and}
 use Rattle.view.specs.View.{tabView}
-use Rattle.access.proofs.walk.member_bits.Reads as member-bits-reads
+use Rattle.step.proofs.member_bits.Reads as member-bits-reads
 use Rattle.types.proofs.resolve_type.Reads as resolve-type-reads
 use Rattle.types.proofs.same_text.Reads as same-text-reads
 use Rattle.view.proofs.entry_of.Reads as entry-of-reads

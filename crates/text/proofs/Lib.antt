@@ -1,0 +1,4 @@
+pub mod Digits
+pub mod Colons
+pub mod Parts
+pub mod Counting
