@@ -3,6 +3,7 @@
 //   target: struct a { struct { long w; int z[8]; } s; };
 // From the target's a: [0] is at bit 0, .s at bit 0, .z at bit 64, [2] at bit 128.
 use btf::Btf;
+use member::member_of;
 use rules::Accessor;
 use rules::BTF_KIND_ARRAY;
 use rules::BTF_KIND_STRUCT;
@@ -17,7 +18,6 @@ use search::search_member;
 use step::Placed;
 use step::placed_element;
 use types::resolve_type;
-use value::member_of;
 use view::count_of;
 use view::extra_of;
 use view::kind_of;

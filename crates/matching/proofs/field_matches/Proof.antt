@@ -6,7 +6,7 @@ use native.Mathlib.Omega.{arith}
 use lib.ListN.{take}
 use borrow.Author.Needs.{needs}
 use Rattle.view.specs.View.{tabView}
-use Rattle.value.specs.Replies.{replyOf}
+use Rattle.member.specs.Replies.{replyOf}
 use Rattle.matching.specs.Candidates.{folded, fieldEvents}
 use Rattle.matching.proofs.Events.{own-fold, field-given}
 use Rattle.matching.proofs.Folding.{Folding, folding-first, folding-over, less, pass-next, keep-next, halt}
