@@ -1,6 +1,7 @@
 // Whether two types, or the types of two members, are compatible: the local one's id and the target's. Any bytes, any
 // tables get an answer.
 use btf::Btf;
+use names::same_named;
 use rules::BTF_KIND_ARRAY;
 use rules::BTF_KIND_FLOAT;
 use rules::BTF_KIND_FUNC_PROTO;
@@ -15,7 +16,6 @@ use rules::Resolved;
 use types::is_composite;
 use types::is_enum;
 use types::resolve_type;
-use types::same_named;
 use view::count_of;
 use view::entry_of;
 use view::extra_of;

@@ -1,5 +1,5 @@
-// Questions about one type, by id: where its chain of modifiers ends and how many bytes it has; and whether two names are
-// the same but for flavours. Any bytes, any table get an answer.
+// Questions about one type, by id: where its chain of modifiers ends and how many bytes it has. Any bytes, any table get an
+// answer.
 use btf::Btf;
 use rules::BTF_KIND_ARRAY;
 use rules::BTF_KIND_DATASEC;
@@ -24,18 +24,12 @@ use view::extra_of;
 use view::kind_of;
 use view::ref_of;
 use view::size_of;
-use words::part;
 ghost use mathlib.Core.Path.{_≡_};
 ghost use mathlib.Core.Bool.{cond, _||_};
 ghost use lib.Dec.{eqb};
-ghost use lib.ListN.{getD, drop};
-ghost use Rattle.btf.specs.Sections.{stringsIn};
-ghost use Rattle.view.specs.Text.{textAt};
 ghost use Rattle.view.specs.View.{tabView};
 ghost use Rattle.rules.specs.Kinds.{ARRAY, isModifier, isComposite, isEnum, hasSize, sizedByRef};
-ghost use Rattle.rules.specs.Types.{resolve, product, sizeOf, isEmpty, sameText, flavourless, sameFlavourless};
-
-const UNDERSCORE: u8 = 95;
+ghost use Rattle.rules.specs.Types.{resolve, product, sizeOf};
 
 const POINTER_SIZE: u32 = 8;
 
@@ -141,81 +135,4 @@ pub fn type_size(bytes: &[u8], table: &[u32], btf: Btf, id: u32) -> Sized
         left -= 1;
     }
     Sized::Unsized(Why::ChainTooLong, at)
-}
-
-// Byte for byte the same.
-pub fn same_text(a: &[u8], b: &[u8]) -> bool
-    ensures { λ r. ⌜ r ≡ sameText (now (a .entry)) (now (b .entry)) ⌝ }
-{
-    if a.len() != b.len() {
-        return false;
-    }
-    let mut i = 0;
-    while i < a.len() {
-        if a[i] != b[i] {
-            return false;
-        }
-        i += 1;
-    }
-    true
-}
-
-fn byte_at(name: &[u8], i: usize) -> u8
-    ensures { λ r. ⌜ r ≡ getD (now (name .entry)) i 0 ⌝ }
-{
-    if i < name.len() { name[i] } else { 0 }
-}
-
-// Whether a name has nothing from an index on, or a flavour.
-fn ends_at(name: &[u8], i: usize) -> bool
-    ensures { λ r. ⌜ r ≡ isEmpty (flavourless (drop i (now (name .entry)))) ⌝ }
-{
-    if i >= name.len() {
-        return true;
-    }
-    name[i] == UNDERSCORE
-        && (byte_at(name, i + 1) == UNDERSCORE && byte_at(name, i + 2) == UNDERSCORE)
-}
-
-// Whether the name at a place of the strings has nothing, or a flavour: past the end a byte reads as the zero that ends it.
-fn ends_in(strings: &[u8], at: usize) -> bool
-    ensures { λ r. ⌜ r ≡ isEmpty (flavourless (textAt (now (strings .entry)) at)) ⌝ }
-{
-    let byte = byte_at(strings, at);
-    if byte == 0 {
-        return true;
-    }
-    byte == UNDERSCORE
-        && (byte_at(strings, at + 1) == UNDERSCORE && byte_at(strings, at + 2) == UNDERSCORE)
-}
-
-// A name and the one at a place of the strings, each up to its first three underscores. The first byte that differs ends
-// it: most names differ early, so the other's end is not looked for.
-fn same_in(name: &[u8], strings: &[u8], from: usize) -> bool
-    ensures { λ r. ⌜ r ≡ sameFlavourless (now (name .entry)) (textAt (now (strings .entry)) from) ⌝ }
-{
-    let mut i = 0;
-    let mut at = from;
-    loop {
-        let over = ends_in(strings, at);
-        if ends_at(name, i) {
-            return over;
-        }
-        if over {
-            return false;
-        }
-        if name[i] != strings[at] {
-            return false;
-        }
-        i += 1;
-        at += 1;
-    }
-}
-
-// Whether a name and the one at an offset of the strings are the same but for flavours.
-pub fn same_named(name: &[u8], bytes: &[u8], btf: Btf, offset: u32) -> bool
-    ensures { λ r. ⌜ r ≡ sameFlavourless (now (name .entry)) (textAt (stringsIn (now (bytes .entry)) btf) offset) ⌝ }
-{
-    let z = btf.strings;
-    same_in(name, part(bytes, z.start, z.size), offset as usize)
 }

@@ -10,7 +10,7 @@ use borrow.Fn.PlainCycle.{Measures, is, falls, and}
 use Rattle.view.specs.View.{tabView}
 use Rattle.step.proofs.member_bits.Reads as member-bits-reads
 use Rattle.types.proofs.resolve_type.Reads as resolve-type-reads
-use Rattle.types.proofs.same_text.Reads as same-text-reads
+use Rattle.names.proofs.same_text.Reads as same-text-reads
 use Rattle.view.proofs.entry_of.Reads as entry-of-reads
 use Rattle.view.proofs.text_of.Reads as text-of-reads
 use Rattle.search.proofs.Searching.{Searching, search-endless, searching-first, searching-full, searching-deep, searching-back, searching-past, searching-settled, searching-other, searching-end, searched-parts}

@@ -1,10 +1,10 @@
--- `types::ends_at` meets its contract.
+-- `names::ends_at` meets its contract.
 -- Assumes nothing.
 use mathlib.Core.Path.{refl}
-use Rattle.types.proofs.Names.{nothing-left, left, third, no-second, no-first}
+use Rattle.names.proofs.Names.{nothing-left, left, third, no-second, no-first}
 use borrow.Author.Needs.{needs}
-use Rattle.types.proofs.ends_at.Statement.{statement}
-use Rattle.types.proofs.ends_at.Tie as tie
+use Rattle.names.proofs.ends_at.Statement.{statement}
+use Rattle.names.proofs.ends_at.Tie as tie
 
 returns : tie.Need-returns
 returns c = nothing-left (c .before .before .args .name .now) (c .before .before .args .i) (c .if1 .taken)

@@ -1,9 +1,9 @@
--- `types::ends_in` meets its contract.
+-- `names::ends_in` meets its contract.
 -- Assumes nothing.
-use Rattle.types.proofs.Names.{zero-left, within, left-in, third, no-second, no-first}
+use Rattle.names.proofs.Names.{zero-left, within, left-in, third, no-second, no-first}
 use borrow.Author.Needs.{needs}
-use Rattle.types.proofs.ends_in.Statement.{statement}
-use Rattle.types.proofs.ends_in.Tie as tie
+use Rattle.names.proofs.ends_in.Statement.{statement}
+use Rattle.names.proofs.ends_in.Tie as tie
 
 returns : tie.Need-returns
 returns c = zero-left (c .before .before .before .args .strings .now) (c .before .before .before .args .at) (c .before .byte-at .ensures) (c .if1 .taken)

@@ -1,10 +1,10 @@
--- `types::byte_at` meets its contract.
+-- `names::byte_at` meets its contract.
 -- Assumes nothing.
 use mathlib.Core.Path.{sym}
 use lib.ListN.{List·getD-eq-default}
 use borrow.Author.Needs.{needs}
-use Rattle.types.proofs.byte_at.Statement.{statement}
-use Rattle.types.proofs.byte_at.Tie as tie
+use Rattle.names.proofs.byte_at.Statement.{statement}
+use Rattle.names.proofs.byte_at.Tie as tie
 
 returns-2 : tie.Need-returns-2
 returns-2 c = sym (List·getD-eq-default (c .before .args .name .now) 0 (c .if1 .left))

@@ -1,13 +1,13 @@
--- `types::same_in` meets its contract.
+-- `names::same_in` meets its contract.
 -- Assumes nothing.
 use mathlib.Core.Path.{refl}
 use Prim.Native.Nat.{_-_}
 use lib.ListN.{length}
 use native.Mathlib.Omega.{arith}
-use Rattle.types.proofs.Names.{Alike, inside, inside-in, name-ends, other-ends, name-differs, name-goes}
+use Rattle.names.proofs.Names.{Alike, inside, inside-in, name-ends, other-ends, name-differs, name-goes}
 use borrow.Author.Needs.{needs}
-use Rattle.types.proofs.same_in.Statement.{statement}
-use Rattle.types.proofs.same_in.Tie as tie
+use Rattle.names.proofs.same_in.Statement.{statement}
+use Rattle.names.proofs.same_in.Tie as tie
 
 abbrev Inv-loop : tie.InvT-loop
 Inv-loop name strings from i₀ at₀ i at = Alike name strings from i at

@@ -1,4 +1,4 @@
--- `types::same_named` meets its contract.
+-- `names::same_named` meets its contract.
 -- Assumes nothing.
 use Prim.Native.Nat.{ℕ}
 use mathlib.Core.Path.{_∙_, ap}
@@ -6,8 +6,8 @@ use mathlib.Core.List.{List}
 use Rattle.view.specs.Text.{textAt}
 use Rattle.rules.specs.Types.{sameFlavourless}
 use borrow.Author.Needs.{needs}
-use Rattle.types.proofs.same_named.Statement.{statement}
-use Rattle.types.proofs.same_named.Tie as tie
+use Rattle.names.proofs.same_named.Statement.{statement}
+use Rattle.names.proofs.same_named.Tie as tie
 
 returns : tie.Need-returns
 returns c =

@@ -1,13 +1,13 @@
--- `types::same_text` meets its contract.
+-- `names::same_text` meets its contract.
 -- Assumes nothing.
 use mathlib.Core.Path.{refl}
 use Prim.Native.Nat.{_≤_, _-_}
 use lib.ListN.{length}
 use native.Mathlib.Omega.{arith}
-use Rattle.types.proofs.Names.{Agree, other-length, text-differs, text-goes, text-ends}
+use Rattle.names.proofs.Names.{Agree, other-length, text-differs, text-goes, text-ends}
 use borrow.Author.Needs.{needs}
-use Rattle.types.proofs.same_text.Statement.{statement}
-use Rattle.types.proofs.same_text.Tie as tie
+use Rattle.names.proofs.same_text.Statement.{statement}
+use Rattle.names.proofs.same_text.Tie as tie
 
 abbrev Inv-loop : tie.InvT-loop
 Inv-loop a b i₀ i = (i ≤ length a) × Agree a b i
