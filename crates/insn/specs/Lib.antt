@@ -1,4 +1,1 @@
 pub mod Patched
-pub mod Kept
-pub mod KeptLaws
-pub mod Order

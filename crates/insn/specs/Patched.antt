@@ -1,9 +1,7 @@
 -- What the code answers, as a patch of the rules.
 -- Assumes nothing.
-use Prim.Native.Nat.{ℕ, _+_, _*_}
-use mathlib.Core.Bool.{cond}
+use Prim.Native.Nat.{ℕ, _+_}
 use mathlib.Core.List.{List}
-use lib.Dec.{ltb}
 use Rattle.rules.specs.declared.Refusal.{Refusal}
 use Rattle.rules.specs.declared.Refusal.the-variants.{NoSuccessor, BadInstruction}
 use Rattle.rules.specs.Apply.{Patch, done, stopped}
@@ -21,7 +19,3 @@ invalid reason = Stopped (BadInstruction reason)
 
 abbrev pub noSuccessor : ℕ → Patched
 noSuccessor i = Stopped (NoSuccessor (i + 1))
-
--- Where instruction i begins in so many bytes, or their end
-unfoldable pub startOf : ℕ → ℕ → ℕ
-startOf n i = cond (ltb (8 * i) n) (8 * i) n

@@ -21,9 +21,9 @@ use Rattle.rules.specs.Kinds.{enumValue}
 use Rattle.rules.specs.Refusal.{Reply, ok, refused}
 use Rattle.rules.specs.Apply.{Patch, done, stopped, code, class, isWide, patchFront, patch}
 use Rattle.rules.specs.Record.{relocated, Outcome, shown, outcome, refuse, apply, indexOf, inFunction, recordOf}
-use Rattle.insn.specs.Kept.{bytesOf, refusalOf, takesNext, reach, mapped, reachAt}
-use Rattle.insn.specs.KeptLaws.{keeps}
-use Rattle.insn.specs.Order.{drop-take, later}
+use Rattle.kept.specs.Kept.{bytesOf, refusalOf, takesNext, reach, mapped, reachAt}
+use Rattle.kept.specs.KeptLaws.{keeps}
+use Rattle.kept.specs.Order.{drop-take, later}
 use Rattle.order.specs.AnyOrder.{span, Touching}
 
 -- A patch that takes the next instruction is of class 0.

@@ -20,9 +20,9 @@ use Rattle.rules.specs.Kinds.{enumValue}
 use Rattle.rules.specs.Refusal.{Reply, ok, refused}
 use Rattle.rules.specs.Apply.{Patch, done, stopped, code, class, isWide, hasSlot, patch}
 use Rattle.rules.specs.Record.{relocated, Outcome, shown, outcome, apply, indexOf, inFunction, recordOf}
-use Rattle.insn.specs.Kept.{bytesOf, refusalOf, takesNext, reach, reachAt}
-use Rattle.insn.specs.KeptLaws.{keeps, reaches}
-use Rattle.insn.specs.Order.{Apart, apart, later, at}
+use Rattle.kept.specs.Kept.{bytesOf, refusalOf, takesNext, reach, reachAt}
+use Rattle.kept.specs.KeptLaws.{keeps, reaches}
+use Rattle.kept.specs.Order.{Apart, apart, later, at}
 use Rattle.growth.specs.Demand3.{isRefused}
 use Rattle.growth.specs.One.{stages}
 use Rattle.order.specs.Touching.{takes-wide, left}

@@ -6,7 +6,7 @@ use compute::Relocated;
 use compute::record_at;
 use compute::record_write;
 use insn::Patched;
-use insn::patch;
+use patch::patch;
 use rules::Answer;
 use rules::Ending;
 use rules::Record;

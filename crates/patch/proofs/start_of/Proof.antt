@@ -1,11 +1,11 @@
--- `insn::start_of` meets its contract.
+-- `patch::start_of` meets its contract.
 -- Assumes nothing.
 use denote.Ref.{now}
 use lib.ListN.{length}
-use Rattle.insn.proofs.Laws.{begins, ends}
+use Rattle.patch.proofs.Laws.{begins, ends}
 use borrow.Author.Needs.{needs}
-use Rattle.insn.proofs.start_of.Statement.{statement}
-use Rattle.insn.proofs.start_of.Tie as tie
+use Rattle.patch.proofs.start_of.Statement.{statement}
+use Rattle.patch.proofs.start_of.Tie as tie
 
 returns : tie.Need-returns
 returns c = let a = c .before .args in (begins (length (now (a .insns))) (a .index) (c .if1 .taken), search needs)

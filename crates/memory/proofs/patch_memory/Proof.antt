@@ -1,13 +1,13 @@
--- `insn::patch_memory` meets its contract.
+-- `memory::patch_memory` meets its contract.
 -- Assumes nothing.
 use mathlib.Core.Path.{_∙_, ap}
 use denote.Ref.{now}
 use Rattle.insn.specs.Patched.{patchOf}
 use Rattle.insn.specs.declared.Patched.{Patched}
-use Rattle.insn.proofs.Laws.{too-far, near}
+use Rattle.memory.proofs.Laws.{too-far, near}
 use borrow.Author.Needs.{needs}
-use Rattle.insn.proofs.patch_memory.Statement.{statement}
-use Rattle.insn.proofs.patch_memory.Tie as tie
+use Rattle.memory.proofs.patch_memory.Statement.{statement}
+use Rattle.memory.proofs.patch_memory.Tie as tie
 
 returns : tie.Need-returns
 returns c =

@@ -1,13 +1,13 @@
--- `insn::patch_value` meets its contract.
+-- `patch::patch_value` meets its contract.
 -- Assumes nothing.
 use mathlib.Core.Path.{_∙_, ap}
 use denote.Ref.{now}
 use Rattle.insn.specs.Patched.{patchOf}
 use Rattle.insn.specs.declared.Patched.{Patched}
-use Rattle.insn.proofs.Laws.{alu, memory, wide, classless}
+use Rattle.patch.proofs.Laws.{alu, memory, wide, classless}
 use borrow.Author.Needs.{needs}
-use Rattle.insn.proofs.patch_value.Statement.{statement}
-use Rattle.insn.proofs.patch_value.Tie as tie
+use Rattle.patch.proofs.patch_value.Statement.{statement}
+use Rattle.patch.proofs.patch_value.Tie as tie
 
 returns : tie.Need-returns
 returns c =

@@ -22,7 +22,7 @@ use Rattle.rules.specs.declared.Resize.the-variants.{Same, OneSided, Unlike, To
 use Rattle.rules.specs.declared.Write.{Write}
 use Rattle.rules.specs.declared.Write.the-variants.{Put, Poison}
 use Rattle.rules.specs.Apply.{Patch, done, stopped, hasSlot, code, class, isAlu, isMemory, isWide, sourceRegister, withCode, withOff, withImm, low, high, poisoned, alsoNext, poison, patchAlu, sizeBits, withSize, sized, resize, patchMemory, patchWide, patchClass, patchFront, behind, patch}
-use Rattle.insn.specs.Kept.{bytesOf, Partial, takesNext, reach, mapped, reachAt, Keeps}
+use Rattle.kept.specs.Kept.{bytesOf, Partial, takesNext, reach, mapped, reachAt, Keeps}
 
 -- A writer of the first r bytes: it does the same to them alone, and leaves those behind.
 pub record Writes (r : ℕ) (f : List ℕ → List ℕ) : Type 0 where

@@ -1,14 +1,14 @@
--- `insn::patch_alu` meets its contract.
+-- `patch::patch_alu` meets its contract.
 -- Assumes nothing.
 use mathlib.Core.Path.{_∙_, ap}
 use denote.Ref.{now}
 use Rattle.rules.specs.Apply.{withImm}
 use Rattle.insn.specs.Patched.{patchOf}
 use Rattle.insn.specs.declared.Patched.{Patched}
-use Rattle.insn.proofs.Laws.{register, immediate}
+use Rattle.patch.proofs.Laws.{register, immediate}
 use borrow.Author.Needs.{needs}
-use Rattle.insn.proofs.patch_alu.Statement.{statement}
-use Rattle.insn.proofs.patch_alu.Tie as tie
+use Rattle.patch.proofs.patch_alu.Statement.{statement}
+use Rattle.patch.proofs.patch_alu.Tie as tie
 
 returns : tie.Need-returns
 returns c =

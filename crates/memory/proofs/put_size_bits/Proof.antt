@@ -1,9 +1,9 @@
--- `insn::put_size_bits` meets its contract.
+-- `memory::put_size_bits` meets its contract.
 -- Assumes nothing.
 use Rattle.rules.specs.Apply.{withSize, withCode, code}
 use borrow.Author.Needs.{needs}
-use Rattle.insn.proofs.put_size_bits.Statement.{statement}
-use Rattle.insn.proofs.put_size_bits.Tie as tie
+use Rattle.memory.proofs.put_size_bits.Statement.{statement}
+use Rattle.memory.proofs.put_size_bits.Tie as tie
 
 returns : tie.Need-returns
 unfolding withSize withCode code

@@ -9,8 +9,8 @@ use lib.ListN.{getD, take, drop, take-append-drop}
 use lib.Seq.{getD-take, getD-drop, take-nil, take-add, take-take, drop-drop}
 use Rattle.rules.specs.declared.Write.{Write}
 use Rattle.rules.specs.Apply.{Patch, done, stopped, code, patchFront, behind, patch}
-use Rattle.insn.specs.Kept.{bytesOf, refusalOf, reach, mapped, reachAt}
-use Rattle.insn.specs.KeptLaws.{reaches, keeps, parts}
+use Rattle.kept.specs.Kept.{bytesOf, refusalOf, reach, mapped, reachAt}
+use Rattle.kept.specs.KeptLaws.{reaches, keeps, parts}
 
 -- Instruction i is patched and then j, or j and then i.
 pub record Apart (xs : List ℕ) (i : ℕ) (w : Write) (j : ℕ) (u : Write) : Type 0 where

@@ -1,10 +1,10 @@
--- `insn::patch` meets its contract.
+-- `patch::patch` meets its contract.
 -- Assumes nothing.
 use denote.Ref.{now}
-use Rattle.insn.proofs.Laws.{patched}
+use Rattle.patch.proofs.Laws.{patched}
 use borrow.Author.Needs.{needs}
-use Rattle.insn.proofs.patch.Statement.{statement}
-use Rattle.insn.proofs.patch.Tie as tie
+use Rattle.patch.proofs.patch.Statement.{statement}
+use Rattle.patch.proofs.patch.Tie as tie
 
 returns : tie.Need-returns
 returns c =

@@ -1,16 +1,16 @@
--- `insn::put_size` meets its contract.
+-- `memory::put_size` meets its contract.
 -- Assumes nothing.
 use mathlib.Core.Path.{_∙_, ap, sym}
 use Prim.Native.Nat.{ℕ}
 use mathlib.Core.Option.{Option}
 use denote.Ref.{now}
 use Rattle.rules.specs.Apply.{sized, sizeBits}
 use Rattle.insn.specs.Patched.{patchOf}
 use Rattle.insn.specs.declared.Patched.{Patched}
-use Rattle.insn.proofs.Laws.{no-bits}
+use Rattle.memory.proofs.Laws.{no-bits}
 use borrow.Author.Needs.{needs}
-use Rattle.insn.proofs.put_size.Statement.{statement}
-use Rattle.insn.proofs.put_size.Tie as tie
+use Rattle.memory.proofs.put_size.Statement.{statement}
+use Rattle.memory.proofs.put_size.Tie as tie
 
 returns : tie.Need-returns
 unfolding sizeBits

@@ -1,9 +1,9 @@
--- `insn::patch_front` meets its contract.
+-- `patch::patch_front` meets its contract.
 -- Assumes nothing.
 use Rattle.rules.specs.Apply.{patchFront}
 use borrow.Author.Needs.{needs}
-use Rattle.insn.proofs.patch_front.Statement.{statement}
-use Rattle.insn.proofs.patch_front.Tie as tie
+use Rattle.patch.proofs.patch_front.Statement.{statement}
+use Rattle.patch.proofs.patch_front.Tie as tie
 
 returns : tie.Need-returns
 unfolding patchFront

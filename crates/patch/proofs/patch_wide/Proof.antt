@@ -1,4 +1,4 @@
--- `insn::patch_wide` meets its contract.
+-- `patch::patch_wide` meets its contract.
 -- Assumes nothing.
 use mathlib.Core.Path.{_∙_, ap, sym}
 use mathlib.Core.List.{List}
@@ -6,12 +6,12 @@ use Prim.Native.Nat.{ℕ}
 use native.Mathlib.Omega.{arith}
 use denote.Ref.{now}
 use Rattle.rules.specs.Apply.{withImm, high, alsoNext, patchWide}
 use Rattle.insn.specs.Patched.{patchOf}
 use Rattle.insn.specs.declared.Patched.{Patched}
 use Rattle.insn.proofs.Laws.{room, missing, changed}
 use borrow.Author.Needs.{needs}
-use Rattle.insn.proofs.patch_wide.Statement.{statement}
-use Rattle.insn.proofs.patch_wide.Tie as tie
+use Rattle.patch.proofs.patch_wide.Statement.{statement}
+use Rattle.patch.proofs.patch_wide.Tie as tie
 
 sub-put-imm : tie.Need-sub-put-imm
 sub-put-imm c = omega (arith, room (c .before .before .before .before .before .put-imm .last .0) (sym (c .before .has-successor .ensures) ∙ c .if1 .taken))

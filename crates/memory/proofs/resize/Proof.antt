@@ -1,13 +1,13 @@
--- `insn::resize` meets its contract.
+-- `memory::resize` meets its contract.
 -- Assumes nothing.
 use mathlib.Core.Path.{_∙_, ap, sym}
 use denote.Ref.{now}
 use Rattle.rules.specs.Apply.{resize}
 use Rattle.insn.specs.Patched.{patchOf}
 use Rattle.insn.specs.declared.Patched.{Patched}
 use borrow.Author.Needs.{needs}
-use Rattle.insn.proofs.resize.Statement.{statement}
-use Rattle.insn.proofs.resize.Tie as tie
+use Rattle.memory.proofs.resize.Statement.{statement}
+use Rattle.memory.proofs.resize.Tie as tie
 
 returns : tie.Need-returns
 unfolding resize

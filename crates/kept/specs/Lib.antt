@@ -1,0 +1,3 @@
+pub mod Kept
+pub mod KeptLaws
+pub mod Order
