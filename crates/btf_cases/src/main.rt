@@ -5,10 +5,10 @@ use btf::Answer;
 use btf::number_of;
 use btf::read;
 use btf::value_of;
+use put::put_u8;
+use put::put_u16;
+use put::put_u32;
 use words::part;
-use words::put_u8;
-use words::put_u16;
-use words::put_u32;
 
 // A type's twelve bytes.
 fn typ(b: &mut [u8], at: usize, name: u32, kind: u8, vlen: u16, third: u32) {

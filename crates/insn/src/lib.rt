@@ -1,11 +1,11 @@
 // One eBPF instruction (document 01, section 7; RFC 9669): eight bytes, code, destination (low) and source (high) register,
 // off in two, imm in four. Here are its fields, what a patch answers, and poison. Every function finds the instruction at the
 // front of the bytes that it is lent, and its successor behind it. Total: any bytes have an answer.
+use put::put_i16;
+use put::put_i32;
+use put::put_u8;
+use put::signed32;
 use rules::Refusal;
-use words::put_i16;
-use words::put_i32;
-use words::put_u8;
-use words::signed32;
 use words::u8_at;
 ghost use mathlib.Core.Path.{_≡_};
 ghost use Rattle.rules.specs.Apply as apply;

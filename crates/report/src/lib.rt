@@ -1,8 +1,8 @@
 // Section 9's report, piece by piece into a lent buffer. Every writer answers for any place: it writes what fits and returns
 // the next place, so over an empty buffer it counts.
+use put::put_u8;
 use rules::Answer;
 use rules::Refusal;
-use words::put_u8;
 ghost use mathlib.Core.Path.{_≡_};
 ghost use mathlib.Core.List.{[], _∷_, _++_};
 ghost use Prim.Native.Nat.{_+_, min};

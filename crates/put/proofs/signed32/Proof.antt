@@ -1,10 +1,10 @@
--- `words::signed32` meets its contract, by the law at 32 bits.
+-- `put::signed32` meets its contract, by the law at 32 bits.
 -- Assumes nothing.
 use borrow.Author.Needs.{needs}
 use mir.Syntax.{w32}
-use Rattle.words.specs.SignLaws.{HighAt, high}
-use Rattle.words.proofs.signed32.Statement.{statement}
-use Rattle.words.proofs.signed32.Tie as tie
+use Rattle.put.specs.SignLaws.{HighAt, high}
+use Rattle.put.proofs.signed32.Statement.{statement}
+use Rattle.put.proofs.signed32.Tie as tie
 
 up : (c : tie.Else1) → HighAt w32 (c .before .args .x)
 up c = high w32 (c .before .args .x) (c .if1 .left) (c .before .fits .x .fits)

@@ -1,12 +1,12 @@
--- `words::put_u16` meets its contract.
+-- `put::put_u16` meets its contract.
 -- Assumes nothing.
 use mathlib.Core.Path.{sym}
 use denote.Ref.{now}
 use Rattle.words.specs.Num.{little}
 use Rattle.words.specs.PutLaws.{past, bytes}
 use borrow.Author.Needs.{needs}
-use Rattle.words.proofs.put_u16.Statement.{statement}
-use Rattle.words.proofs.put_u16.Tie as tie
+use Rattle.put.proofs.put_u16.Statement.{statement}
+use Rattle.put.proofs.put_u16.Tie as tie
 
 returns : tie.Need-returns
 returns c =

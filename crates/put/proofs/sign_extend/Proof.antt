@@ -1,13 +1,13 @@
--- `words::sign_extend` meets its contract.
+-- `put::sign_extend` meets its contract.
 -- Assumes nothing.
 use mathlib.Core.Path.{_∙_, ap}
 use borrow.Author.Needs.{needs}
 use mir.Syntax.{w32, w64}
 use mir.Val.{ofZ}
 use mir.ValLaws.{toZ-ofZ}
-use Rattle.words.specs.SignLaws.{extends}
-use Rattle.words.proofs.sign_extend.Statement.{statement}
-use Rattle.words.proofs.sign_extend.Tie as tie
+use Rattle.put.specs.SignLaws.{extends}
+use Rattle.put.proofs.sign_extend.Statement.{statement}
+use Rattle.put.proofs.sign_extend.Tie as tie
 
 returns : tie.Need-returns
 returns c =

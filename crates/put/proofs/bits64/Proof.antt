@@ -1,9 +1,9 @@
--- `words::bits64` meets its contract, by the laws at 64 bits.
+-- `put::bits64` meets its contract, by the laws at 64 bits.
 -- Assumes nothing.
 use mir.Syntax.{w64}
-use Rattle.words.specs.SignLaws.{PlainAt, plain, OtherAt, other}
-use Rattle.words.proofs.bits64.Statement.{statement}
-use Rattle.words.proofs.bits64.Tie as tie
+use Rattle.put.specs.SignLaws.{PlainAt, plain, OtherAt, other}
+use Rattle.put.proofs.bits64.Statement.{statement}
+use Rattle.put.proofs.bits64.Tie as tie
 
 on : (c : tie.Then1) → PlainAt w64 (c .before .args .v)
 on c = plain w64 (c .before .args .v) (c .before .fits .v) (c .if1 .taken)

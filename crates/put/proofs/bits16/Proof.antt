@@ -1,9 +1,9 @@
--- `words::bits16` meets its contract, by the laws at 16 bits.
+-- `put::bits16` meets its contract, by the laws at 16 bits.
 -- Assumes nothing.
 use mir.Syntax.{w16}
-use Rattle.words.specs.SignLaws.{PlainAt, plain, OtherAt, other}
-use Rattle.words.proofs.bits16.Statement.{statement}
-use Rattle.words.proofs.bits16.Tie as tie
+use Rattle.put.specs.SignLaws.{PlainAt, plain, OtherAt, other}
+use Rattle.put.proofs.bits16.Statement.{statement}
+use Rattle.put.proofs.bits16.Tie as tie
 
 on : (c : tie.Then1) → PlainAt w16 (c .before .args .v)
 on c = plain w16 (c .before .args .v) (c .before .fits .v) (c .if1 .taken)

@@ -1,11 +1,11 @@
--- `words::put_u8` meets its contract.
+-- `put::put_u8` meets its contract.
 -- Assumes nothing.
 use mathlib.Core.Path.{sym}
 use denote.Ref.{now}
 use lib.Seq.{set-out}
 use borrow.Author.Needs.{needs}
-use Rattle.words.proofs.put_u8.Statement.{statement}
-use Rattle.words.proofs.put_u8.Tie as tie
+use Rattle.put.proofs.put_u8.Statement.{statement}
+use Rattle.put.proofs.put_u8.Tie as tie
 
 returns-2 : tie.Need-returns-2
 returns-2 c = let a = c .before .args in sym (set-out (now (a .bytes)) (a .at) (a .v) (c .if1 .left))

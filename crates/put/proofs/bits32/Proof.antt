@@ -1,9 +1,9 @@
--- `words::bits32` meets its contract, by the laws at 32 bits.
+-- `put::bits32` meets its contract, by the laws at 32 bits.
 -- Assumes nothing.
 use mir.Syntax.{w32}
-use Rattle.words.specs.SignLaws.{PlainAt, plain, OtherAt, other}
-use Rattle.words.proofs.bits32.Statement.{statement}
-use Rattle.words.proofs.bits32.Tie as tie
+use Rattle.put.specs.SignLaws.{PlainAt, plain, OtherAt, other}
+use Rattle.put.proofs.bits32.Statement.{statement}
+use Rattle.put.proofs.bits32.Tie as tie
 
 on : (c : tie.Then1) → PlainAt w32 (c .before .args .v)
 on c = plain w32 (c .before .args .v) (c .before .fits .v) (c .if1 .taken)

@@ -1,12 +1,12 @@
--- `words::widened` meets its contract.
+-- `put::widened` meets its contract.
 -- Assumes nothing.
 use mathlib.Core.Path.{_∙_, ap}
 use borrow.Author.Needs.{needs}
 use mir.Syntax.{w64}
 use mir.Val.{ofZ}
-use Rattle.words.specs.SignLaws.{widens, widens-back}
-use Rattle.words.proofs.widened.Statement.{statement}
-use Rattle.words.proofs.widened.Tie as tie
+use Rattle.put.specs.SignLaws.{widens, widens-back}
+use Rattle.put.proofs.widened.Statement.{statement}
+use Rattle.put.proofs.widened.Tie as tie
 
 cast-bits64 : tie.Need-cast-bits64
 cast-bits64 c = widens (c .args .v) (c .fits .v)

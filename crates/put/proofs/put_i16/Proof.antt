@@ -1,15 +1,15 @@
--- `words::put_i16` meets its contract.
+-- `put::put_i16` meets its contract.
 -- Assumes nothing.
 use mathlib.Core.Path.{_∙_, ap}
 use denote.Ref.{now}
 use Rattle.words.specs.Num.{little}
 use Rattle.words.specs.Put.{putAt}
 use mir.Syntax.{w16}
 use mir.Val.{ofZ}
 use mir.ValLaws.{toZ-ofZ}
 use borrow.Author.Needs.{needs}
-use Rattle.words.proofs.put_i16.Statement.{statement}
-use Rattle.words.proofs.put_i16.Tie as tie
+use Rattle.put.proofs.put_i16.Statement.{statement}
+use Rattle.put.proofs.put_i16.Tie as tie
 
 returns : tie.Need-returns
 returns c =
