@@ -3,8 +3,8 @@ use denote.Ref.{now}
 use lib.Seq.{sets}
 use Rattle.btf.specs.declared.Btf.{Btf}
 use Rattle.view.specs.View.{tabView}
-use Rattle.leamugi.specs.declared.Numbers.{Numbers}
-use Rattle.leamugi.specs.Numbers.{five, entryNumbers}
+use Rattle.numbers.specs.declared.Numbers.{Numbers}
+use Rattle.numbers.specs.Numbers.{five, entryNumbers}
 use borrow.Author.Needs.{needs}
 use Rattle.leamugi.proofs.leamugi_entry.Statement.{statement}
 use Rattle.leamugi.proofs.leamugi_entry.Tie as tie

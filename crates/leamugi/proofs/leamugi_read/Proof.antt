@@ -1,8 +1,8 @@
 use mathlib.Core.Path.{ap, _∙_}
 use denote.Ref.{now}
 use lib.Seq.{sets}
-use Rattle.leamugi.specs.declared.Numbers.{Numbers}
-use Rattle.leamugi.specs.Numbers.{five, readNumbers}
+use Rattle.numbers.specs.declared.Numbers.{Numbers}
+use Rattle.numbers.specs.Numbers.{five, readNumbers}
 use borrow.Author.Needs.{needs}
 use Rattle.leamugi.proofs.leamugi_read.Statement.{statement}
 use Rattle.leamugi.proofs.leamugi_read.Tie as tie

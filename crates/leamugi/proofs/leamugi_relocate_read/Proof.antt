@@ -4,8 +4,9 @@ use lib.Seq.{sets}
 use Rattle.btf.specs.declared.Btf.{Btf}
 use Rattle.view.specs.View.{tabView}
 use Rattle.rules.specs.Call.{Effect, relocateRead}
-use Rattle.leamugi.specs.declared.Numbers.{Numbers}
-use Rattle.leamugi.specs.Numbers.{five, btfOf, laid-out}
+use Rattle.numbers.specs.declared.Numbers.{Numbers}
+use Rattle.numbers.specs.Numbers.{five, btfOf}
+use Rattle.leamugi.specs.Calls.{laid-out}
 use borrow.Author.Needs.{needs}
 use Rattle.leamugi.proofs.leamugi_relocate_read.Statement.{statement}
 use Rattle.leamugi.proofs.leamugi_relocate_read.Tie as tie

@@ -10,8 +10,10 @@ use Rattle.rules.specs.Call.{Effect, recordsIn, relocateRead}
 use Rattle.rules.specs.Report.{reportSaid}
 use Rattle.reporting.specs.declared.Reported.{Reported}
 use Rattle.reporting.specs.Reported.{reported, holding}
-use Rattle.leamugi.specs.declared.Numbers.{Numbers}
-use Rattle.leamugi.specs.Numbers.{five, btfOf, saidNumbers, lengthOf, reportedNumbers, laid-out}
+use Rattle.numbers.specs.declared.Numbers.{Numbers}
+use Rattle.numbers.specs.Numbers.{five, btfOf}
+use Rattle.endings.specs.Endings.{saidNumbers}
+use Rattle.leamugi.specs.Calls.{lengthOf, reportedNumbers, laid-out}
 use borrow.Author.Needs.{needs}
 use Rattle.leamugi.proofs.leamugi_relocate_reported.Statement.{statement}
 use Rattle.leamugi.proofs.leamugi_relocate_reported.Tie as tie

@@ -3,8 +3,8 @@ use denote.Ref.{now}
 use lib.Seq.{sets}
 use Rattle.btf.specs.declared.Btf.{Btf}
 use Rattle.view.specs.View.{tabView}
-use Rattle.leamugi.specs.declared.Numbers.{Numbers}
-use Rattle.leamugi.specs.Numbers.{five, typeNumbers}
+use Rattle.numbers.specs.declared.Numbers.{Numbers}
+use Rattle.numbers.specs.Numbers.{five, typeNumbers}
 use borrow.Author.Needs.{needs}
 use Rattle.leamugi.proofs.leamugi_type.Statement.{statement}
 use Rattle.leamugi.proofs.leamugi_type.Tie as tie

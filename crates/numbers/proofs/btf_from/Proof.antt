@@ -1,0 +1,22 @@
+use Rattle.numbers.specs.Numbers.{btfOf}
+use mathlib.Core.Path.{_≡_, refl, sym, _∙_}
+use borrow.Author.Tests.{eq-eqb, ne-eqb, lt-ltb, le-ltb, le-leb, lt-leb}
+use borrow.Author.Needs.{needs}
+use Rattle.numbers.proofs.btf_from.Statement.{statement}
+use Rattle.numbers.proofs.btf_from.Tie as tie
+
+returns : tie.Need-returns
+unfolding btfOf
+returns c = sym (rw (← (c .before .before .before .before .number-at .ensures), ← (c .before .before .before .number-at2 .ensures), ← (c .before .before .number-at3 .ensures), ← (c .before .number-at4 .ensures), ← (c .number-at5 .ensures)))
+
+pub btf-from-spec : {M : Type 1} → statement M
+btf-from-spec =
+    tie.close
+    (tie.spec
+    (λ c κs. search needs)
+    (λ c κs. search needs)
+    (λ c κs. search needs)
+    (λ c κs. search needs)
+    (λ c κs. search needs)
+    (λ c. search needs)
+    returns)
