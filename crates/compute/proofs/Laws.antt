@@ -13,7 +13,7 @@ use Rattle.access.proofs.Reach.{the-type}
 use Rattle.access.specs.declared.Reach.{Reach}
 use Rattle.access.specs.declared.Reach.the-variants as Reach
 use Rattle.access.specs.Replies.{reachOf}
-use Rattle.matching.specs.Candidates.{matchesOf}
+use Rattle.matching.specs.Matches.{matchesOf}
 use Rattle.view.specs.View.{View}
 use Rattle.rules.specs.declared.Resolved.the-variants.{At, Endless}
 use Rattle.rules.specs.declared.Accessor.{Accessor}

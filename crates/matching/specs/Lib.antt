@@ -1,1 +1,1 @@
-pub mod Candidates
+pub mod Matches

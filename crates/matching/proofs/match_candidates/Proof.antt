@@ -2,7 +2,7 @@
 -- Assumes nothing.
 use mathlib.Core.Path.{sym, _∙_}
 use borrow.Author.Needs.{needs}
-use Rattle.matching.specs.Candidates.{type-all, enum-all, field-all}
+use Rattle.matching.specs.Matches.{type-all, enum-all, field-all}
 use Rattle.matching.proofs.match_candidates.Statement.{statement}
 use Rattle.matching.proofs.match_candidates.Tie as tie
 

@@ -1,0 +1,4 @@
+pub mod Enums
+pub mod Events
+pub mod Folding
+pub mod Keeping

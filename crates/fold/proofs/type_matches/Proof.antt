@@ -1,0 +1,70 @@
+-- `fold::type_matches` meets its contract.
+-- Assumes nothing.
+use Prim.Native.Nat.{suc, _-_}
+use mathlib.Core.Path.{sym, _∙_}
+use native.Mathlib.Omega.{arith}
+use borrow.Author.Needs.{needs}
+use Rattle.view.specs.View.{tabView}
+use Rattle.candidate.specs.Events.{typeEvents}
+use Rattle.fold.specs.Folded.{folded}
+use Rattle.fold.proofs.Events.{own-fold}
+use Rattle.fold.proofs.Folding.{Folding, folding-first, folding-over, less, pass-next, keep-next, halt}
+use Rattle.fold.proofs.type_matches.Statement.{statement}
+use Rattle.fold.proofs.type_matches.Tie as tie
+
+abbrev Inv-loop : tie.InvT-loop
+Inv-loop local ltable lbtf target ttable tbtf relo own name kept₀ next₀ kept next =
+    Folding (tabView target ttable tbtf) own name (typeEvents (tabView local ltable lbtf) (tabView target ttable tbtf) (relo .kind) (relo .typ)) (tbtf .last) (folded (tabView local ltable lbtf) (tabView target ttable tbtf) relo (typeEvents (tabView local ltable lbtf) (tabView target ttable tbtf) (relo .kind) (relo .typ))) kept next
+
+abbrev μ-loop : tie.MeasureT-loop
+μ-loop local ltable lbtf target ttable tbtf relo own name kept₀ next₀ kept next = suc (tbtf .last) - next
+
+loop-holds : tie.Need-loop-holds Inv-loop μ-loop
+loop-holds c = folding-first _ _ _ _ _ (omega (arith, (c .before .before .before .before .before .before .before .good .1 .1 .1 .1 .1 .0))) (own-fold _ _ (c .before .before .before .before .before .before .before .args .relo) (c .before .before .kind-of .ensures) (c .before .type-name .ensures) _) (c .next-candidate .ensures)
+
+loop-less : tie.Need-loop-less Inv-loop μ-loop
+loop-less c = less (c .before .before .before .before .before .before .loop .inv) (c .before .before .before .before .if1 .taken) (c .before .before .before .next-candidate2 .ensures)
+
+loop-again : tie.Need-loop-again Inv-loop μ-loop
+loop-again c = pass-next (c .before .before .before .before .before .before .loop .inv) (c .before .before .before .before .if1 .taken) (c .before .before .before .next-candidate2 .ensures) (sym (c .before .before .type-event .ensures) ∙ c .enum-told .given .1)
+
+keep-requires : tie.Need-keep-requires Inv-loop μ-loop
+keep-requires c κs = omega (arith, (c .before .before .before .before .before .before .before .loop .inv .few), (c .before .before .before .before .before .before .before .loop .inv .fits), (c .before .before .before .before .before .if1 .taken))
+
+loop-less-2 : tie.Need-loop-less-2 Inv-loop μ-loop
+loop-less-2 c = less (c .before .before .before .before .before .before .before .before .loop .inv) (c .before .before .before .before .before .before .if1 .taken) (c .before .before .before .before .before .next-candidate2 .ensures)
+
+loop-again-2 : tie.Need-loop-again-2 Inv-loop μ-loop
+loop-again-2 c = keep-next (c .before .before .before .before .before .before .before .before .loop .inv) (c .before .before .before .before .before .before .if1 .taken) (c .before .before .before .before .before .next-candidate2 .ensures) (sym (c .before .before .before .before .type-event .ensures) ∙ c .before .before .event .given .1) (c .keep .ensures)
+
+returns : tie.Need-returns Inv-loop μ-loop
+returns c = halt (c .before .before .before .before .before .before .before .loop .inv) (c .before .before .before .before .before .if1 .taken) (sym (c .before .before .before .type-event .ensures) ∙ c .before .event2 .given .1)
+
+returns-2 : tie.Need-returns-2 Inv-loop μ-loop
+returns-2 c = folding-over (c .before .before .loop .inv) (c .if1 .left)
+
+pub type-matches-spec : {M : Type 1} → statement M
+type-matches-spec =
+    tie.close
+    (tie.spec
+    Inv-loop
+    μ-loop
+    (λ c κs. search needs)
+    (λ c κs. search needs)
+    (λ c κs. search needs)
+    loop-holds
+    (λ c. search needs)
+    (λ c. search needs)
+    (λ c. search needs)
+    (λ c κs. search needs)
+    (λ c κs. search needs)
+    (λ c. search needs)
+    loop-less
+    loop-again
+    (λ c. search needs)
+    keep-requires
+    loop-less-2
+    loop-again-2
+    (λ c. search needs)
+    returns
+    returns-2)

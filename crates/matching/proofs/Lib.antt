@@ -1,5 +1,0 @@
-pub mod Enums
-pub mod Events
-pub mod Fields
-pub mod Folding
-pub mod Keeping
