@@ -1,6 +1,5 @@
 // What one candidate gives: to a type as a whole, to a variant, to a path of fields.
 use btf::Btf;
-use compat::types_are_compatible;
 use follow::path_step;
 use kinds::Entry;
 use member::Valued;
@@ -13,6 +12,7 @@ use rules::Refusal;
 use rules::Search;
 use rules::Target;
 use rules::Worth;
+use type_compat::types_are_compatible;
 use value::field_value;
 use value::type_value;
 use value::variant_value;

@@ -13,7 +13,7 @@
 use bits::Bits;
 use bits::bits_sum;
 use btf::Btf;
-use compat::fields_are_compatible;
+use field_compat::fields_are_compatible;
 use kinds::Entry;
 use names::same_text;
 use rules::Accessor;
