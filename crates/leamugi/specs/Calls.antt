@@ -6,7 +6,7 @@ use Rattle.view.specs.View.{View}
 use Rattle.rules.specs.declared.Said.{Said}
 use Rattle.rules.specs.Call.{Effect, recordsIn, relocateRead}
 use Rattle.rules.specs.Report.{reportSaid}
-use Rattle.relocate.specs.Run.{effectOf}
+use Rattle.records.specs.Run.{effectOf}
 use Rattle.reporting.specs.declared.Reported.{Reported}
 use Rattle.reporting.specs.declared.Reported.the-variants.{Written, Needed}
 use Rattle.numbers.specs.declared.Numbers.{Numbers}

@@ -9,7 +9,7 @@ use numbers::put_five;
 use numbers::reading_numbers;
 use numbers::said_numbers;
 use numbers::type_numbers;
-use relocate::relocate_read;
+use records::relocate_read;
 use reporting::Reported;
 use reporting::report;
 ghost use mathlib.Core.Path.{_≡_};

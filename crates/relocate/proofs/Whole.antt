@@ -1,8 +1,8 @@
 -- The laws of the whole call: its shape, the two BTFs, the records; and of the tables that it leaves.
 -- Assumes nothing.
 use Prim.Native.Nat.{ℕ}
-use mathlib.Core.Path.{_≡_, refl, sym, ap, subst, _∙_}
-use mathlib.Core.Bool.{Bool, true, false, cond, _&&_}
+use mathlib.Core.Path.{_≡_, refl, sym, ap, _∙_}
+use mathlib.Core.Bool.{Bool, true, false}
 use mathlib.Core.List.{List, [], _∷_}
 use lib.ListN.{length}
 use types.Run.{OneOf, miss}
@@ -19,8 +19,9 @@ use Rattle.rules.specs.declared.Ending.the-variants.{Misshapen}
 use Rattle.rules.specs.declared.Which.{Which}
 use Rattle.rules.specs.declared.Which.the-variants.{Local, Target}
 use Rattle.rules.specs.declared.Said.{Said}
-use Rattle.rules.specs.Call.{ended, Effect, unrun, runOf, shaped, isRead, readThen, relocateOf, relocateRead, localTable, targetTable}
-use Rattle.relocate.specs.Run.{effectOf, unreadOf, onTarget}
+use Rattle.rules.specs.Call.{ended, Effect, unrun, runOf, shaped, isRead, readThen, relocateOf, localTable, targetTable}
+use Rattle.records.specs.Run.{effectOf}
+use Rattle.relocate.specs.Reading.{unreadOf, onTarget}
 
 -- a reading that is none
 abbrev Unread : Reading → Type 0
@@ -38,16 +39,6 @@ not-read (Read b) h = absurd (miss (1 ∷ 2 ∷ 3 ∷ []) 0 tt h)
 not-read (Bad i) h = refl
 not-read Over h = refl
 not-read (TooShort n) h = refl
-
--- BTFs that were read before
-module _ (L T : View) (xs : List ℕ) (section : ℕ) (rs : List ℕ) {b : Bool} (e : b ≡ shaped xs section rs) where
-  pub read-misshapen : b ≡ false → {s : Said} → s ≡ ended Misshapen 0 → effectOf s xs ≡ relocateRead L T xs section rs
-  unfolding relocateRead
-  read-misshapen f g = ap (λ (s : Said). effectOf s xs) g ∙ sym (rw (← e, f))
-
-  pub read-runs : b ≡ true → {o : Effect} → o ≡ runOf L T section xs rs → o ≡ relocateRead L T xs section rs
-  unfolding relocateRead
-  read-runs f g = g ∙ sym (rw (← e, f))
 
 -- the target
 module _ (L : View) (t table xs : List ℕ) (section : ℕ) (rs : List ℕ) where

@@ -8,7 +8,6 @@ use report::put_record;
 use rules::Answer;
 use rules::Ending;
 use rules::Record;
-use rules::Refusal;
 use rules::Said;
 use rules::Write;
 ghost use mathlib.Core.Path.{_≡_};

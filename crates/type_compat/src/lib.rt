@@ -2,7 +2,6 @@
 use alike::ints_agree;
 use alike::kinds_alike;
 use btf::Btf;
-use names::same_named;
 use rules::BTF_KIND_ARRAY;
 use rules::BTF_KIND_FLOAT;
 use rules::BTF_KIND_FUNC_PROTO;

@@ -13,7 +13,6 @@ use rules::Sized;
 use types::type_size;
 use view::flag_of;
 use view::kind_of;
-use view::size_of;
 ghost use mathlib.Core.Path.{_≡_};
 ghost use Rattle.view.specs.View.{tabView};
 ghost use Rattle.rules.specs.Refusal.{ok};

@@ -1,48 +1,24 @@
 -- A list of records as a loop goes through it: from record number k on, with so many left.
-use Prim.Native.Nat.{ℕ, zero, suc, _+_, _*_, _-_, _/_, _^_, _≤_, _<_}
+use Prim.Native.Nat.{ℕ, suc, _+_, _*_, _-_, _/_, _^_, _≤_, _<_}
 use mathlib.Core.Path.{_≡_, refl, sym, ap, _∙_}
-use mathlib.Core.List.{List, [], _∷_}
+use mathlib.Core.List.{List}
 use native.Mathlib.Omega.{arith}
-use native.Mathlib.Nat.{not-suc-le-zero}
-use native.Mathlib.Numerals.{sub-one}
 use lib.ListN.{length}
-use Rattle.view.specs.View.{View, docView, tabView}
-use Rattle.view.specs.Agree.{agrees}
+use Rattle.view.specs.View.{View}
 use Rattle.rules.specs.declared.Refusal.{Refusal}
 use Rattle.rules.specs.declared.Record.{Record}
 use Rattle.rules.specs.declared.Answer.{Answer}
 use Rattle.rules.specs.declared.Answer.the-variants.{Applied, Poisoned, Refused}
-use Rattle.rules.specs.declared.Ending.{Ending}
-use Rattle.rules.specs.declared.Ending.the-variants.{Done, BadBtf, OverLimit, TableShort, Stopped, Misshapen}
-use Rattle.rules.specs.declared.Which.{Which}
-use Rattle.rules.specs.declared.Which.the-variants.{Local, Target}
-use Rattle.btf.specs.declared.Btf.{Btf}
-use Rattle.btf.specs.declared.Answer.{Answer as Reading}
-use Rattle.btf.specs.declared.Answer.the-variants.{Read, Bad, Over, TooShort}
-use Rattle.btf.specs.Table.{decode, tabled}
+use Rattle.rules.specs.declared.Ending.the-variants.{Done, Stopped}
 use Rattle.rules.specs.declared.Said.{Said}
-use Rattle.rules.specs.Record.{Outcome, recordOf}
-use Rattle.rules.specs.List.{Run, follow, listOf}
-use Rattle.rules.specs.Call.{recordAt, recordsFrom, ended, endOf, Effect, runOf, readThen, relocateOf, relocateRead}
-
--- What an answer and the instructions it leaves make
-abbrev pub outcomeOf : Answer → List ℕ → Outcome
-outcomeOf a xs = record { answer = a; insns = xs }
+use Rattle.rules.specs.Record.{recordOf}
+use Rattle.rules.specs.List.{Run, listOf}
+use Rattle.rules.specs.Call.{recordAt, recordsFrom, ended, endOf, Effect, runOf}
+use Rattle.apply.specs.Applied.{outcomeOf}
 
 -- What is said and the instructions left make
 abbrev pub effectOf : Said → List ℕ → Effect
 effectOf s xs = record { said = s; insns = xs }
-
--- How a call ends where a BTF is not read
-abbrev pub unreadOf : Which → Reading → Ending
-unreadOf w (Read b) = Done
-unreadOf w (Bad i) = BadBtf w i
-unreadOf w Over = OverLimit w
-unreadOf w (TooShort n) = TableShort w n
-
--- The target read, and the records applied
-unfoldable pub onTarget : View → List ℕ → ℕ → List ℕ → ℕ → List ℕ → Effect
-onTarget L t troom xs section rs = readThen Target xs (decode t troom) (λ tb. runOf L (docView t tb) section xs rs)
 
 -- What the answers of a run say from record number k on, and the instructions left
 abbrev effect : ℕ → Run → Effect
@@ -133,9 +109,3 @@ module _ {L T : View} {section : ℕ} {rs xs₀ : List ℕ} {n k : ℕ} {xs : Li
       long = l ∙ g .long;
       rest = sym (run-applied L T section rs k n xs ys h a i told) ∙ g .rest;
     }
-
--- Where the tables are what reading left, the call on BTFs that were read before is the whole call.
-pub read-before : (l ltable t ttable xs : List ℕ) (section : ℕ) (rs : List ℕ) {lb tb : Btf} → Read lb ≡ decode l (length ltable) → Read tb ≡ decode t (length ttable)
-    → relocateRead (tabView l (tabled l ltable) lb) (tabView t (tabled t ttable) tb) xs section rs ≡ relocateOf l (length ltable) t (length ttable) xs section rs
-unfolding relocateRead relocateOf
-read-before l ltable t ttable xs section rs {lb} {tb} p q = rw (agrees l ltable lb p, agrees t ttable tb q, ← p, ← q)

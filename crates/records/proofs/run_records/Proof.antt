@@ -1,12 +1,12 @@
 use Prim.Native.Nat.{_-_}
-use mathlib.Core.Path.{refl, _∙_}
+use mathlib.Core.Path.{refl}
 use native.Mathlib.Omega.{arith}
 use borrow.Author.Needs.{needs}
 use Rattle.view.specs.View.{tabView}
-use Rattle.relocate.specs.Run.{Going, going-first, going-fits, going-end, going-refused, going-next}
-use Rattle.relocate.proofs.Laws.{not-refused}
-use Rattle.relocate.proofs.run_records.Statement.{statement}
-use Rattle.relocate.proofs.run_records.Tie as tie
+use Rattle.records.specs.Run.{Going, going-first, going-fits, going-end, going-refused, going-next}
+use Rattle.records.proofs.Laws.{not-refused}
+use Rattle.records.proofs.run_records.Statement.{statement}
+use Rattle.records.proofs.run_records.Tie as tie
 
 abbrev Inv-loop : tie.InvT-loop
 Inv-loop local ltable lbtf target ttable tbtf insns₀ section records n k₀ insns k = Going (tabView local ltable lbtf) (tabView target ttable tbtf) section records insns₀ n k insns

@@ -1,8 +1,8 @@
 use borrow.Author.Tests.{not-true, not-false}
-use Rattle.relocate.proofs.Whole.{read-misshapen, read-runs}
+use Rattle.records.proofs.Laws.{read-misshapen, read-runs}
 use borrow.Author.Needs.{needs}
-use Rattle.relocate.proofs.relocate_read.Statement.{statement}
-use Rattle.relocate.proofs.relocate_read.Tie as tie
+use Rattle.records.proofs.relocate_read.Statement.{statement}
+use Rattle.records.proofs.relocate_read.Tie as tie
 
 returns : tie.Need-returns
 returns c = read-misshapen _ _ _ _ _ (c .before .before .shape-fine .ensures) (not-true _ (c .before .if1 .taken)) (c .unrun .ensures)

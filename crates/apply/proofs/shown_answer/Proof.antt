@@ -1,7 +1,7 @@
 use mathlib.Core.Path.{sym}
 use borrow.Author.Needs.{needs}
-use Rattle.relocate.proofs.shown_answer.Statement.{statement}
-use Rattle.relocate.proofs.shown_answer.Tie as tie
+use Rattle.apply.proofs.shown_answer.Statement.{statement}
+use Rattle.apply.proofs.shown_answer.Tie as tie
 
 returns : tie.Need-returns
 returns c = sym (rw (c .before .write .given .1))

@@ -1,10 +1,10 @@
 use mathlib.Core.Path.{ap}
 use Rattle.compute.specs.declared.Relocated.{Relocated}
 use Rattle.compute.specs.Replies.{writeOf}
-use Rattle.relocate.proofs.Laws.{apply-refused, apply-done, apply-stopped}
+use Rattle.apply.proofs.Laws.{apply-refused, apply-done, apply-stopped}
 use borrow.Author.Needs.{needs}
-use Rattle.relocate.proofs.apply_write.Statement.{statement}
-use Rattle.relocate.proofs.apply_write.Tie as tie
+use Rattle.apply.proofs.apply_write.Statement.{statement}
+use Rattle.apply.proofs.apply_write.Tie as tie
 
 returns : tie.Need-returns
 returns c = apply-refused _ _ _ (ap (λ (x : Relocated). writeOf x) (c .before .computed .given .1))

@@ -1,8 +1,8 @@
 use mathlib.Core.Path.{sym}
 use borrow.Author.Tests.{eq-eqb, ne-eqb}
 use Rattle.rules.specs.Call.{shaped}
-use Rattle.relocate.proofs.shape_fine.Statement.{statement}
-use Rattle.relocate.proofs.shape_fine.Tie as tie
+use Rattle.records.proofs.shape_fine.Statement.{statement}
+use Rattle.records.proofs.shape_fine.Tie as tie
 
 returns : tie.Need-returns
 unfolding shaped

@@ -1,13 +1,10 @@
 -- The laws of one record applied.
 -- Assumes nothing.
 use Prim.Native.Nat.{ℕ, _-_, _/_, _≤_, _<_}
-use mathlib.Core.Path.{_≡_, refl, sym, subst, _∙_}
-use mathlib.Core.List.{List, [], _∷_}
+use mathlib.Core.Path.{_≡_, sym, _∙_}
+use mathlib.Core.List.{List}
 use lib.ListN.{length}
 use borrow.Author.Tests.{lt-ltb, le-ltb, le-leb, lt-leb}
-use types.Run.{OneOf, miss}
-use denote.Enum.Declared.{tagOf}
-use Rattle.rules.proofs.Answer.{the-type}
 use Rattle.view.specs.View.{View}
 use Rattle.rules.specs.declared.Record.{Record}
 use Rattle.rules.specs.declared.Refusal.the-variants.{KindTooBig, NotInFunction}
@@ -15,14 +12,14 @@ use Rattle.rules.specs.Kinds.{enumValue}
 use Rattle.rules.specs.declared.Refusal.{Refusal}
 use Rattle.rules.specs.declared.Write.{Write}
 use Rattle.rules.specs.declared.Answer.{Answer}
-use Rattle.rules.specs.declared.Answer.the-variants.{Applied, Poisoned, Refused}
+use Rattle.rules.specs.declared.Answer.the-variants.{Refused}
 use Rattle.rules.specs.Refusal.{Reply, ok, refused}
 use Rattle.rules.specs.Apply.{patch}
 use Rattle.rules.specs.Record.{Outcome, shown, apply, relocated, recordOf}
 use Rattle.insn.specs.declared.Patched.{Patched}
 use Rattle.insn.specs.declared.Patched.the-variants.{Done, Stopped}
 use Rattle.insn.specs.Patched.{patchOf}
-use Rattle.relocate.specs.Run.{outcomeOf}
+use Rattle.apply.specs.Applied.{outcomeOf}
 
 module _ (xs : List ℕ) (i : ℕ) where
   pub apply-refused : {x : Reply Write} (q : Refusal) → x ≡ refused q → outcomeOf (Refused q) xs ≡ apply xs i x
@@ -37,10 +34,6 @@ module _ (xs : List ℕ) (i : ℕ) where
     pub apply-stopped : (q : Refusal) → p ≡ Stopped q → outcomeOf (Refused q) ys ≡ apply xs i x
     unfolding apply
     apply-stopped q g = sym (rw (e, ← f, g))
-
--- an answer that is none of the refusals
-pub not-refused : (a : Answer) → OneOf (0 ∷ 1 ∷ []) (tagOf the-type a) → (q : Refusal) → a ≡ Refused q → ⊥
-not-refused a h q e = miss (0 ∷ 1 ∷ []) 2 tt (subst (λ (b : Answer). OneOf (0 ∷ 1 ∷ []) (tagOf the-type b)) e h)
 
 module _ (L T : View) (section : ℕ) (xs : List ℕ) (r : Record) where
   pub kind-high : enumValue < r .kind → outcomeOf (Refused (KindTooBig (r .kind))) xs ≡ recordOf L T section xs r

@@ -1,7 +1,7 @@
-use Rattle.relocate.proofs.Laws.{kind-high, before-function, past-function, in-function}
+use Rattle.apply.proofs.Laws.{kind-high, before-function, past-function, in-function}
 use borrow.Author.Needs.{needs}
-use Rattle.relocate.proofs.apply_record.Statement.{statement}
-use Rattle.relocate.proofs.apply_record.Tie as tie
+use Rattle.apply.proofs.apply_record.Statement.{statement}
+use Rattle.apply.proofs.apply_record.Tie as tie
 
 returns : tie.Need-returns
 returns c = kind-high _ _ _ _ _ (c .if1 .taken)

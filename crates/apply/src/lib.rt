@@ -1,0 +1,72 @@
+// One record: what was computed, applied to its instruction.
+use btf::Btf;
+use compute::Relocated;
+use compute::record_write;
+use insn::Patched;
+use patch::patch;
+use rules::Answer;
+use rules::Record;
+use rules::Refusal;
+use rules::Write;
+ghost use mathlib.Core.Path.{_≡_};
+ghost use Rattle.view.specs.View.{tabView};
+ghost use Rattle.rules.specs.Record.{recordOf, apply, shown};
+ghost use Rattle.compute.specs.Replies.{writeOf};
+ghost use Rattle.apply.specs.Applied.{outcomeOf};
+
+const MAX_KIND: u32 = 11;
+
+// What an applied record shows.
+fn shown_answer(write: Write) -> Answer
+    ensures { λ r. ⌜ r ≡ shown write ⌝ }
+{
+    match write {
+        Write::Put(n, z) => Answer::Applied(n),
+        Write::Poison => Answer::Poisoned,
+    }
+}
+
+// What was computed, applied to instruction `index`.
+fn apply_write(insns: &mut [u8], index: u32, computed: Relocated) -> Answer
+    ensures { λ r. ⌜ outcomeOf r (now (insns .exit)) ≡ apply (now (insns .entry)) index (writeOf computed) ⌝ }
+{
+    match computed {
+        Relocated::Refused(why) => Answer::Refused(why),
+        Relocated::Writes(write) => {
+            let p = patch(insns, index, write);
+            match p {
+                Patched::Done => shown_answer(write),
+                Patched::Stopped(why) => Answer::Refused(why),
+            }
+        }
+    }
+}
+
+// One record.
+pub fn apply_record(
+    local: &[u8],
+    ltable: &[u32],
+    lbtf: Btf,
+    target: &[u8],
+    ttable: &[u32],
+    tbtf: Btf,
+    insns: &mut [u8],
+    section: u64,
+    relo: Record,
+) -> Answer
+    ensures { λ r. ⌜ outcomeOf r (now (insns .exit)) ≡ recordOf (tabView (now (local .entry)) (now (ltable .entry)) lbtf) (tabView (now (target .entry)) (now (ttable .entry)) tbtf) section (now (insns .entry)) relo ⌝ }
+{
+    if MAX_KIND < relo.kind {
+        return Answer::Refused(Refusal::KindTooBig(relo.kind));
+    }
+    let offset = relo.offset as u64;
+    if offset < section {
+        return Answer::Refused(Refusal::NotInFunction);
+    }
+    let index = (offset - section) / 8;
+    if index as usize >= insns.len() / 8 {
+        return Answer::Refused(Refusal::NotInFunction);
+    }
+    let computed = record_write(local, ltable, lbtf, target, ttable, tbtf, relo);
+    apply_write(insns, index as u32, computed)
+}
