@@ -1,6 +1,5 @@
 // One record: what was computed, applied to its instruction.
 use btf::Btf;
-use compute::Relocated;
 use compute::record_write;
 use insn::Patched;
 use patch::patch;
@@ -8,10 +7,11 @@ use rules::Answer;
 use rules::Record;
 use rules::Refusal;
 use rules::Write;
+use writing::Relocated;
 ghost use mathlib.Core.Path.{_≡_};
 ghost use Rattle.view.specs.View.{tabView};
 ghost use Rattle.rules.specs.Record.{recordOf, apply, shown};
-ghost use Rattle.compute.specs.Replies.{writeOf};
+ghost use Rattle.writing.specs.Replies.{writeOf};
 ghost use Rattle.apply.specs.Applied.{outcomeOf};
 
 const MAX_KIND: u32 = 11;

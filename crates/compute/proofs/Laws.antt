@@ -1,6 +1,6 @@
 -- The laws of a record's access: the parts come first, then the chain; the last of a path's accessors.
 -- Assumes nothing.
-use Prim.Native.Nat.{ℕ, _-_, _≤_, _<_}
+use Prim.Native.Nat.{ℕ, _≤_, _<_}
 use mathlib.Core.Path.{_≡_, refl, sym, ap, _∙_}
 use mathlib.Core.List.{List, [], _∷_}
 use native.Mathlib.Omega.{arith}
@@ -33,7 +33,7 @@ use Rattle.rules.specs.Types.{resolve}
 use Rattle.rules.specs.Access.{last, Access, whole, variant, path, parse, localAccess}
 use Rattle.rules.specs.Record.{accessAt, accessed, matches, conclude, computed, compute, relocated}
 use Rattle.access.proofs.Walking.{last-is}
-use Rattle.compute.specs.Replies.{endlessAfter}
+use Rattle.compute.specs.Endless.{endlessAfter}
 
 module _ (L : View) (r : Record) where
   -- no such type, no such string

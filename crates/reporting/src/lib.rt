@@ -1,6 +1,5 @@
 // Section 9's report of a call that was made: the applied records' values by the two BTFs, then the refusal.
 use btf::Btf;
-use compute::Relocated;
 use compute::record_at;
 use compute::record_write;
 use report::near;
@@ -10,6 +9,7 @@ use rules::Ending;
 use rules::Record;
 use rules::Said;
 use rules::Write;
+use writing::Relocated;
 ghost use mathlib.Core.Path.{_≡_};
 ghost use Prim.Native.Nat.{_≤_, _+_, _*_, _-_, _/_, min};
 ghost use lib.ListN.{length};

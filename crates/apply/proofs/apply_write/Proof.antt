@@ -1,6 +1,6 @@
 use mathlib.Core.Path.{ap}
-use Rattle.compute.specs.declared.Relocated.{Relocated}
-use Rattle.compute.specs.Replies.{writeOf}
+use Rattle.writing.specs.declared.Relocated.{Relocated}
+use Rattle.writing.specs.Replies.{writeOf}
 use Rattle.apply.proofs.Laws.{apply-refused, apply-done, apply-stopped}
 use borrow.Author.Needs.{needs}
 use Rattle.apply.proofs.apply_write.Statement.{statement}

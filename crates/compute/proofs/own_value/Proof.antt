@@ -1,4 +1,4 @@
-use mathlib.Core.Path.{_≡_, refl, sym, _∙_}
+use mathlib.Core.Path.{sym}
 use Rattle.rules.specs.Value.{localValue}
 use borrow.Author.Needs.{needs}
 use Rattle.compute.proofs.own_value.Statement.{statement}

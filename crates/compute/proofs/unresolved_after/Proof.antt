@@ -1,4 +1,4 @@
-use mathlib.Core.Path.{_≡_, refl, sym, _∙_}
+use mathlib.Core.Path.{sym}
 use borrow.Author.Needs.{needs}
 use Rattle.compute.proofs.unresolved_after.Statement.{statement}
 use Rattle.compute.proofs.unresolved_after.Tie as tie

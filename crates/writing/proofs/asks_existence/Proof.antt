@@ -1,8 +1,8 @@
 use Rattle.rules.specs.Record.{absent}
-use mathlib.Core.Path.{_≡_, refl, sym, _∙_}
-use borrow.Author.Tests.{eq-eqb, ne-eqb, lt-ltb, le-ltb, le-leb, lt-leb}
-use Rattle.compute.proofs.asks_existence.Statement.{statement}
-use Rattle.compute.proofs.asks_existence.Tie as tie
+use mathlib.Core.Path.{sym}
+use borrow.Author.Tests.{eq-eqb, ne-eqb}
+use Rattle.writing.proofs.asks_existence.Statement.{statement}
+use Rattle.writing.proofs.asks_existence.Tie as tie
 
 returns : tie.Need-returns
 unfolding absent

@@ -1,9 +1,9 @@
 use Rattle.rules.specs.Record.{resizable}
-use mathlib.Core.Path.{_≡_, refl, sym, _∙_}
-use borrow.Author.Tests.{eq-eqb, ne-eqb, lt-ltb, le-ltb, le-leb, lt-leb}
+use mathlib.Core.Path.{sym}
+use borrow.Author.Tests.{eq-eqb, ne-eqb}
 use borrow.Author.Needs.{needs}
-use Rattle.compute.proofs.exchangeable.Statement.{statement}
-use Rattle.compute.proofs.exchangeable.Tie as tie
+use Rattle.writing.proofs.exchangeable.Statement.{statement}
+use Rattle.writing.proofs.exchangeable.Tie as tie
 
 returns : tie.Need-returns
 unfolding resizable
