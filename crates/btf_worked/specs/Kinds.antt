@@ -1,9 +1,9 @@
 -- Worked examples of sections 3 and 4, by computation: a BTF with one type of each kind, and edits of it.
 -- Assumes nothing.
-use Prim.Native.Nat.{ℕ, zero, suc, _+_, _*_, _/_, _%_}
+use Prim.Native.Nat.{ℕ, _+_, _/_, _%_}
 use mathlib.Core.Path.{_≡_, refl}
 use mathlib.Core.List.{List, [], _∷_, _++_}
-use lib.ListN.{length, getD, set}
+use lib.ListN.{getD, set}
 use Rattle.words.specs.Num.{numAt, section}
 use Rattle.kinds.specs.Kinds.{isKind, extraBytes, entryBytes, hasSize, hasType, encodes, entry, entryOf}
 use Rattle.kinds.specs.Types.{extraAt, entryAt, entriesAt, entryCount, typeAt, typeBytes}

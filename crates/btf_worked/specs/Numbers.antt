@@ -1,8 +1,8 @@
 -- Worked examples of numbers in bytes, by computation.
 -- Assumes nothing.
-use Prim.Native.Nat.{ℕ, zero, suc, _+_, _-_, _*_, _/_, _%_, _^_}
+use Prim.Native.Nat.{_-_, _^_}
 use mathlib.Core.Path.{_≡_, refl}
-use mathlib.Core.List.{List, [], _∷_}
+use mathlib.Core.List.{[], _∷_}
 use Rattle.words.specs.Num.{little, big, numAt}
 use Rattle.words.specs.Put.{putAt}
 use Rattle.words.specs.Sign.{extended}

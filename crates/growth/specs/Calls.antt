@@ -1,7 +1,7 @@
 -- Demand 3 of two calls: proved, for BTFs that were read before, and for the call from bytes to bytes.
-use Prim.Native.Nat.{ℕ, zero, suc, _+_, _<_}
+use Prim.Native.Nat.{ℕ, suc, _+_}
 use mathlib.Core.Path.{_≡_, refl, sym, ap, _∙_, subst}
-use mathlib.Core.Bool.{Bool, true, false, cond, not, _||_}
+use mathlib.Core.Bool.{Bool, true, false, cond, not}
 use mathlib.Core.List.{List, [], _∷_, _++_}
 use native.Mathlib.Omega.{arith}
 use native.Mathlib.Nat.{zero-add}
@@ -11,8 +11,7 @@ use borrow.Author.Tests.{not-true, not-false}
 use Rattle.btf.specs.declared.Btf.{Btf}
 use Rattle.btf.specs.declared.Whole.{Whole}
 use Rattle.btf.specs.declared.Whole.the-variants.{Accepted, Bad as Fault, Over as Many}
-use Rattle.btf.specs.declared.Answer.{Answer as Reading}
-use Rattle.btf.specs.declared.Answer.the-variants.{Read, Bad, Over, TooShort}
+use Rattle.btf.specs.declared.Answer.the-variants.{Read, TooShort}
 use Rattle.btf.specs.Accept.{accepted}
 use Rattle.btf.specs.Table.{roomy, decode}
 use Rattle.view.specs.View.{View, docView, Closed, Extends}
@@ -21,13 +20,11 @@ use Rattle.rules.specs.declared.Record.{Record}
 use Rattle.rules.specs.declared.Answer.{Answer}
 use Rattle.rules.specs.declared.Answer.the-variants.{Applied, Poisoned, Refused}
 use Rattle.rules.specs.declared.Which.the-variants.{Local, Target}
-use Rattle.rules.specs.declared.Ending.{Ending}
-use Rattle.rules.specs.declared.Ending.the-variants.{Done, BadBtf, OverLimit, TableShort, Stopped, Misshapen}
-use Rattle.rules.specs.declared.Said.{Said}
-use Rattle.rules.specs.Record.{Outcome, recordOf}
+use Rattle.rules.specs.declared.Ending.the-variants.{Stopped, Misshapen}
+use Rattle.rules.specs.Record.{recordOf}
 use Rattle.rules.specs.List.{Run, follow, listOf}
 use Rattle.rules.specs.Call.{recordsIn, ended, endOf, Effect, unrun, runOf, shaped, readThen, relocateOf, relocateRead}
-use Rattle.growth.specs.Demand3.{isRefused, anyRefused, allMatched, SettledList, FirstHarmed, StoppedAsDue, Demand3List, isDone, SettledCall, CallStopped, Demand3Call}
+use Rattle.growth.specs.Demand3.{isRefused, anyRefused, allMatched, SettledList, FirstHarmed, StoppedAsDue, isDone, SettledCall, CallStopped, Demand3Call}
 use Rattle.growth.specs.Whole.{head, others, demand3-list-view}
 
 -- What the answers say

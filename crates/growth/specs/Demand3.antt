@@ -32,7 +32,7 @@ use Rattle.rules.specs.Refusal.{Reply, ok, refused, number}
 use Rattle.rules.specs.Access.{Access}
 use Rattle.rules.specs.Value.{localValue}
 use Rattle.rules.specs.Record.{over, eventAt, accessed, refuse, recordOf}
-use Rattle.rules.specs.List.{Run, listOf}
+use Rattle.rules.specs.List.{listOf}
 use Rattle.rules.specs.Call.{ended, Effect}
 
 -- Two targets

@@ -26,11 +26,11 @@ use Rattle.rules.specs.declared.Matches.{Matches}
 use Rattle.rules.specs.declared.Matches.the-variants.{Unmatched, Kept, Halted}
 use Rattle.rules.specs.declared.Record.{Record}
 use Rattle.rules.specs.Kinds.{isEnum, typeIdTarget, typeExists}
-use Rattle.rules.specs.Refusal.{Reply, ok, refused}
+use Rattle.rules.specs.Refusal.{Reply, ok}
 use Rattle.rules.specs.Types.{resolve, sizeOf, sized, typesCompatible}
 use Rattle.rules.specs.Access.{Access, whole, variant, path}
 use Rattle.rules.specs.Value.{plain, fieldValue, typeValue}
-use Rattle.rules.specs.Matching.{isCandidate, worth, typeEvent, variantNamed, variantEvent, enumEvent, enumEventAt, fieldMatch, perhaps, valued, fieldEvent, event}
+use Rattle.rules.specs.Matching.{isCandidate, worth, typeEvent, variantNamed, variantEvent, enumEvent, enumEventAt, fieldMatch, fieldEvent, event}
 use Rattle.rules.specs.Record.{agrees, turn, over, eventAt}
 use Rattle.growth.specs.Demand3.{causes}
 use Rattle.growth.specs.Types.{Low, resolve-low, resolve-grow, types-grow}

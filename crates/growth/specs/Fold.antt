@@ -17,10 +17,10 @@ use Rattle.rules.specs.declared.Worth.the-variants.{Known, Unknown}
 use Rattle.rules.specs.declared.Event.{Event}
 use Rattle.rules.specs.declared.Event.the-variants.{Nothing, Matched, Bad}
 use Rattle.rules.specs.declared.Matches.{Matches}
-use Rattle.rules.specs.declared.Matches.the-variants.{Unmatched, Kept, Halted}
+use Rattle.rules.specs.declared.Matches.the-variants.{Kept, Halted}
 use Rattle.rules.specs.Refusal.{Reply, ok, refused, number}
 use Rattle.rules.specs.Record.{agree, agrees, firstOf, turn, over, conclude}
-use Rattle.growth.specs.Demand3.{causes, otherValue, harms, ownOr, firstOwn, those, owed, isDueNumber}
+use Rattle.growth.specs.Demand3.{causes, harms, ownOr, firstOwn, those, owed, isDueNumber}
 
 -- The fold in two parts, and by events that are the same
 

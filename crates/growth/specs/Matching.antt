@@ -23,7 +23,7 @@ use Rattle.rules.specs.declared.Refusal.the-variants.{MaximumNesting, Unresolve
 use Rattle.rules.specs.Kinds.{ARRAY, isComposite}
 use Rattle.rules.specs.Limits.{maxSpecLen, maxLevels, bitLimit}
 use Rattle.rules.specs.Fields.{memberBits, entryAt}
-use Rattle.rules.specs.Refusal.{Reply, ok, refused, bind, bitOffset, number}
+use Rattle.rules.specs.Refusal.{Reply, ok, refused, bind, bitOffset}
 use Rattle.rules.specs.Types.{resolve, resolved, sizeOf, sized, isEmpty, sameText, fieldsCompatible}
 use Rattle.rules.specs.Access.{element, elementBits}
 use Rattle.rules.specs.Matching.{next, orElse, reached, grown, decided, Sought, atMember, level, membersOf, noLevel, search, targetMember, atElement, targetOpen, targetElement, targetElementAt, targetStep, targetSteps, origin, fieldMatch}

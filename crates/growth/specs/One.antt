@@ -2,7 +2,7 @@
 use Prim.Native.Nat.{ℕ, zero, suc, _+_, _-_, _≤_, _<_}
 use mathlib.Core.Path.{_≡_, refl, sym, ap, _∙_, subst}
 use mathlib.Core.Bool.{Bool, true, false, cond, _||_, not}
-use mathlib.Core.List.{List, [], _∷_}
+use mathlib.Core.List.{List, []}
 use mathlib.Core.Option.{Option, none, some}
 use native.Mathlib.Omega.{arith}
 use lib.Dec.{eqb, ltb}
@@ -16,20 +16,17 @@ use Rattle.rules.specs.declared.Typing.the-variants.{Typed, Untyped}
 use Rattle.rules.specs.declared.Value.{Value}
 use Rattle.rules.specs.declared.Worth.{Worth}
 use Rattle.rules.specs.declared.Worth.the-variants.{Known, Unknown}
-use Rattle.rules.specs.declared.Event.{Event}
-use Rattle.rules.specs.declared.Event.the-variants.{Nothing, Matched, Bad}
+use Rattle.rules.specs.declared.Event.the-variants.{Nothing, Bad}
 use Rattle.rules.specs.declared.Matches.{Matches}
 use Rattle.rules.specs.declared.Matches.the-variants.{Unmatched, Kept, Halted}
 use Rattle.rules.specs.declared.Write.{Write}
-use Rattle.rules.specs.declared.Write.the-variants.{Put, Poison}
-use Rattle.rules.specs.declared.Resize.the-variants.{Same}
 use Rattle.rules.specs.declared.Record.{Record}
 use Rattle.rules.specs.Kinds.{typeIdLocal, enumValue}
-use Rattle.rules.specs.Refusal.{Reply, ok, refused, bind, number}
+use Rattle.rules.specs.Refusal.{Reply, ok, refused, bind}
 use Rattle.rules.specs.Access.{Access}
 use Rattle.rules.specs.Value.{localValue}
 use Rattle.rules.specs.Record.{over, eventAt, matches, conclude, between, resizing, writing, computed, compute, accessed, relocated, Outcome, refuse, apply, indexOf, inFunction, recordOf}
-use Rattle.growth.specs.Demand3.{causes, harms, givenTo, gives, firstMatch, harmsFirst, harmful, firstOwn, those, owed, harmfulIds, due, isDueNumber, isRefused, hasMatch, Past, Settled, RefusedAsDue, Demand3}
+use Rattle.growth.specs.Demand3.{causes, harms, givenTo, gives, firstMatch, harmsFirst, harmful, those, harmfulIds, due, isRefused, hasMatch, Past, Settled, Demand3}
 use Rattle.growth.specs.Values.{TypingIn, WorthIn}
 use Rattle.growth.specs.Events.{EventIn, MatchesIn, event-at-grow, event-at-in, over-in}
 use Rattle.growth.specs.Fold.{over-more, over-same, unless, concluded, One, Owing, those-none-all, owed-none, owed-some, owed-one}

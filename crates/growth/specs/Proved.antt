@@ -1,10 +1,8 @@
 -- Demand 3, of bytes: proved. What it says stands in Demand3.
 use Prim.Native.Nat.{ℕ, _<_}
-use mathlib.Core.Path.{_≡_, refl, sym, ap, _∙_}
-use mathlib.Core.Bool.{true}
+use mathlib.Core.Path.{_≡_, sym, _∙_}
 use mathlib.Core.List.{List}
 use lib.ListN.{length}
-use lib.Dec.{ltb}
 use borrow.Author.Tests.{lt-ltb}
 use Rattle.btf.specs.declared.Btf.{Btf}
 use Rattle.btf.specs.declared.Whole.the-variants.{Accepted}
@@ -16,7 +14,7 @@ use Rattle.view.specs.Agree.{agrees, doc-closed}
 use Rattle.view.specs.Grow.{doc-extends}
 use Rattle.rules.specs.declared.Record.{Record}
 use Rattle.rules.specs.Call.{Effect, recordsIn, relocateOf, relocateRead}
-use Rattle.growth.specs.Demand3.{Extended, btfIn, Settled, Demand3, SettledList, Demand3List, isDone, SettledCall, Demand3Call}
+use Rattle.growth.specs.Demand3.{Extended, btfIn, Settled, Demand3, SettledList, Demand3List, SettledCall, Demand3Call}
 use Rattle.growth.specs.One.{demand3-view}
 use Rattle.growth.specs.Whole.{demand3-list-view}
 use Rattle.growth.specs.Calls.{demand3-read, call-read, Reads, reads}

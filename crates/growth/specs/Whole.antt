@@ -1,7 +1,7 @@
 -- Demand 3 of a list of records, over views: proved.
-use Prim.Native.Nat.{ℕ, zero, suc}
-use mathlib.Core.Path.{_≡_, refl, sym, ap, _∙_, subst}
-use mathlib.Core.Bool.{Bool, true, false, _||_}
+use Prim.Native.Nat.{ℕ}
+use mathlib.Core.Path.{_≡_, refl, sym, ap, subst}
+use mathlib.Core.Bool.{Bool, true, false}
 use mathlib.Core.List.{List, [], _∷_, _++_}
 use native.Mathlib.Omega.{arith}
 use Rattle.pass.specs.Laws.{and-l, and-r}
@@ -10,9 +10,9 @@ use Rattle.rules.specs.declared.Refusal.{Refusal}
 use Rattle.rules.specs.declared.Record.{Record}
 use Rattle.rules.specs.declared.Answer.{Answer}
 use Rattle.rules.specs.declared.Answer.the-variants.{Applied, Poisoned, Refused}
-use Rattle.rules.specs.Record.{Outcome, refuse, recordOf}
-use Rattle.rules.specs.List.{Run, before, follow, listOf}
-use Rattle.growth.specs.Demand3.{Past, harmful, due, isRefused, isMatched, Settled, Demand3, allMatched, SettledList, Unharmed, FirstHarmed, anyRefused, StoppedAsDue, Demand3List}
+use Rattle.rules.specs.Record.{Outcome, recordOf}
+use Rattle.rules.specs.List.{Run, follow, listOf}
+use Rattle.growth.specs.Demand3.{Past, harmful, isRefused, isMatched, Settled, Demand3, allMatched, SettledList, Unharmed, FirstHarmed, anyRefused, StoppedAsDue, Demand3List}
 use Rattle.growth.specs.One.{demand3-view}
 
 follow-same : (a : Answer) (xs : List ℕ) (f g : List ℕ → Run) → f xs ≡ g xs → follow a xs f ≡ follow a xs g

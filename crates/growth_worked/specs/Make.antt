@@ -1,5 +1,5 @@
 -- Bytes of small BTFs, laid out as the kernel's document says: headers, types, names.
-use Prim.Native.Nat.{ℕ, zero, suc, _+_, _*_, _/_, _%_, _^_}
+use Prim.Native.Nat.{ℕ, zero, _+_, _*_, _/_, _%_, _^_}
 use Prim.Native.String.{String}
 use mathlib.Core.List.{List, [], _∷_, _++_}
 use lib.ListN.{length}

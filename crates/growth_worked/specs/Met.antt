@@ -13,7 +13,7 @@ use Rattle.rules.specs.Call.{Effect, recordsIn, relocateOf}
 use Rattle.growth.specs.Demand3.{Extended, btfIn, isRefused, Settled, Demand3, isDone, Demand3Call}
 use Rattle.growth.specs.One.{none-harmful}
 use Rattle.growth.specs.Proved.{demand3, demand3-call}
-use Rattle.growth_worked.specs.Worked.{mine, old, moreNames, oldSections, insns, other, list, grownBy, Example, Worked}
+use Rattle.growth_worked.specs.Worked.{mine, old, moreNames, oldSections, insns, other, list, grownBy, Example}
 use Rattle.growth_worked.specs.Computed.{worked, worked-calls}
 
 module _ {s′ : List ℕ} {places : Btf} {more : List ℕ} {r : Record} {before : Answer} {left ids : List ℕ} {owed : Option Refusal} {after : Answer} {left′ : List ℕ}

@@ -2,13 +2,11 @@
 use Prim.Native.Nat.{ℕ, zero, suc}
 use mathlib.Core.Path.{_≡_}
 use mathlib.Core.Bool.{Bool, true, false, cond}
-use mathlib.Core.List.{List, [], _∷_}
-use mathlib.Core.Option.{Option, none, some}
+use mathlib.Core.Option.{some}
 use Rattle.view.specs.View.{View}
-use Rattle.rules.specs.declared.Refusal.{Refusal}
 use Rattle.rules.specs.declared.Refusal.the-variants.{Conflict, Unresolved}
 use Rattle.rules.specs.declared.Worth.{Worth}
-use Rattle.rules.specs.declared.Worth.the-variants.{Known, Unknown}
+use Rattle.rules.specs.declared.Worth.the-variants.{Known}
 use Rattle.rules.specs.declared.Event.{Event}
 use Rattle.rules.specs.declared.Event.the-variants.{Nothing, Matched, Bad}
 use Rattle.rules.specs.declared.Matches.{Matches}

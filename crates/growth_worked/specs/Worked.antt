@@ -1,5 +1,5 @@
 -- Demand 3 on small BTFs (docs/DEMAND-3.md tells them as C): an extension that changes nothing, and one of each exception.
-use Prim.Native.Nat.{ℕ, zero, suc, _^_}
+use Prim.Native.Nat.{ℕ, _^_}
 use mathlib.Core.Path.{_≡_}
 use mathlib.Core.Bool.{true, false}
 use mathlib.Core.List.{List, [], _∷_, _++_}
@@ -8,7 +8,6 @@ use Rattle.btf.specs.declared.Btf.{Btf}
 use Rattle.btf.specs.declared.Whole.the-variants.{Accepted}
 use Rattle.btf.specs.Sections.{typesIn, stringsIn}
 use Rattle.btf.specs.Accept.{accepted}
-use Rattle.view.specs.View.{View}
 use Rattle.rules.specs.declared.Refusal.{Refusal}
 use Rattle.rules.specs.declared.Refusal.the-variants.{Conflict, MaximumNesting, Unresolved, BitsTooBig, TooDeep}
 use Rattle.rules.specs.declared.Record.{Record}
@@ -16,8 +15,8 @@ use Rattle.rules.specs.declared.Answer.{Answer}
 use Rattle.rules.specs.declared.Answer.the-variants.{Applied, Poisoned, Refused}
 use Rattle.rules.specs.declared.Which.the-variants.{Target}
 use Rattle.rules.specs.declared.Ending.the-variants.{Done, TableShort, Stopped}
-use Rattle.rules.specs.Record.{Outcome, recordOf}
-use Rattle.rules.specs.Call.{recordsIn, ended, Effect, relocateOf}
+use Rattle.rules.specs.Record.{recordOf}
+use Rattle.rules.specs.Call.{recordsIn, ended, relocateOf}
 use Rattle.growth.specs.Demand3.{btfIn, isRefused, isMatched, allMatched, harmfulIds, due}
 use Rattle.growth_worked.specs.Make.{name, member, variant, int, struct1, struct2, enum1, typedef, array, btf, btfOtherwise, relocation}
 

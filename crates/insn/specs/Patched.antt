@@ -2,7 +2,6 @@
 -- Assumes nothing.
 use Prim.Native.Nat.{ℕ, _+_}
 use mathlib.Core.List.{List}
-use Rattle.rules.specs.declared.Refusal.{Refusal}
 use Rattle.rules.specs.declared.Refusal.the-variants.{NoSuccessor, BadInstruction}
 use Rattle.rules.specs.Apply.{Patch, done, stopped}
 use Rattle.insn.specs.declared.Patched.{Patched}

@@ -1,13 +1,14 @@
 -- The table's two columns, and that each of its twenty rows is the rule's: one computed test, one law.
 -- Assumes nothing.
-use mathlib.Core.Path.{_≡_, refl, sym, subst, ap₂}
+use mathlib.Core.Path.{_≡_, subst, ap₂}
 use mathlib.Core.Logic.{_⊎_, ⊎-elim, inl, inr}
-use mathlib.Core.Bool.{Bool, true, false, _&&_}
+use mathlib.Core.Bool.{Bool, true, cond, _&&_}
 use mathlib.Core.List.{List, [], _∷_}
 use Prim.Native.Nat.{ℕ, zero, suc, _≤_, _<_}
 use native.Mathlib.Omega.{arith}
-use lib.Dec.{T, eqb}
-use lib.ListN.{length, getD}
+use lib.Dec.{T, eqb, ltb}
+use borrow.Author.Tests.{lt-ltb, le-ltb}
+use lib.ListN.{getD}
 use mir.Facts.{and-yes, eqb-yes}
 use Rattle.kinds.specs.declared.Tail.{Tail}
 use Rattle.kinds.specs.Kinds.{tailOf, extraBytes, entryBytes}
@@ -58,13 +59,22 @@ beyond k h =
     others k (⊎-elim (λ e. omega arith) (⊎-elim (λ e. omega arith) (λ e. omega arith))) (λ e. omega arith) (⊎-elim (λ e. omega arith) (λ e. omega arith))
     (⊎-elim (λ e. omega arith) (λ e. omega arith)) (λ e. omega arith) (λ e. omega arith)
 
--- the row that the code takes for a kind, in two lists that are the columns
-pub record Taken (a b : List ℕ) (k r : ℕ) : Type 0 where
-  pub few : r < 20
-  pub inOnce : r < length a
-  pub inEach : r < length b
-  pub is : _≡_ {A = Tail} (record { once = getD a r 0; each = getD b r 0 }) (tailOf k)
+-- the row of a kind in two lists, kind 0's for a number that is no kind; 0 where a list has no such row
+unfoldable pub rowIn : List ℕ → List ℕ → ℕ → Tail
+rowIn a b k = let r = cond (ltb k 20) k 0 in record { once = getD a r 0; each = getD b r 0 }
 
-pub taken : (a b : List ℕ) (k r : ℕ) → Columns a b → ((k < 20) × (r ≡ k)) ⊎ ((20 ≤ k) × (r ≡ 0)) → Taken a b k r
-taken a b k r c (inl h) = rw (c .0, c .1, h .1) (record { few = h .0; inOnce = h .0; inEach = h .0; is = at k (h .0) })
-taken a b k r c (inr h) = rw (c .0, c .1, h .1) (record { few = omega arith; inOnce = omega arith; inEach = omega arith; is = beyond k (h .0) })
+-- the row that the code takes
+pub row-taken : (a b : List ℕ) (k r : ℕ) {x y : ℕ} → ((k < 20) × (r ≡ k)) ⊎ ((20 ≤ k) × (r ≡ 0)) → x ≡ getD a r 0 → y ≡ getD b r 0
+    → _≡_ {A = Tail} (record { once = x; each = y }) (rowIn a b k)
+unfolding rowIn
+row-taken a b k r (inl h) p q = rw (p, q, lt-ltb k 20 (h .0), h .1)
+row-taken a b k r (inr h) p q = rw (p, q, le-ltb k 20 (h .0), h .1)
+
+-- in the columns it is the rule's
+pub columns-row : (a b : List ℕ) (k : ℕ) → Columns a b → rowIn a b k ≡ tailOf k
+unfolding rowIn
+columns-row a b k c =
+    ⊎-elim
+    (λ (l : k < 20). rw (c .0, c .1, lt-ltb k 20 l) (at k l))
+    (λ (l : 20 ≤ k). rw (c .0, c .1, le-ltb k 20 l) (beyond k l))
+    (split k 20)

@@ -1,6 +1,6 @@
 -- Document 02, Q-13: the order of records does not matter where each is accepted on the starting instructions and no two touch
 -- a common instruction. This file says it, and no more; it is proved in Proved.
-use Prim.Native.Nat.{ℕ, zero, suc, _+_, _*_}
+use Prim.Native.Nat.{ℕ, suc, _+_, _*_}
 use mathlib.Core.Path.{_≡_}
 use mathlib.Core.Bool.{Bool, true, false, cond, _&&_, _||_}
 use mathlib.Core.List.{List, [], _∷_, _++_}

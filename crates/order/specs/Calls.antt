@@ -1,10 +1,9 @@
 -- Two calls whose lists have the same records in another order: they say the same and leave the same bytes.
-use Prim.Native.Nat.{ℕ, zero, suc, _+_}
+use Prim.Native.Nat.{ℕ, suc, _+_}
 use mathlib.Core.Path.{_≡_, refl, sym, ap, _∙_}
 use mathlib.Core.Bool.{Bool, true, false, cond}
 use mathlib.Core.List.{List, [], _∷_, _++_}
 use native.Mathlib.Omega.{arith}
-use native.Mathlib.Nat.{zero-add}
 use lib.ListN.{length, length-append}
 use lib.Dec.{ltb}
 use Rattle.btf.specs.declared.Btf.{Btf}
@@ -21,13 +20,11 @@ use Rattle.rules.specs.declared.Answer.the-variants.{Applied, Poisoned, Refused
 use Rattle.rules.specs.declared.Ending.the-variants.{Done}
 use Rattle.rules.specs.declared.Which.{Which}
 use Rattle.rules.specs.declared.Which.the-variants.{Local, Target}
-use Rattle.rules.specs.declared.Said.{Said}
 use Rattle.rules.specs.Record.{recordOf}
-use Rattle.rules.specs.List.{listOf}
 use Rattle.rules.specs.Call.{recordsIn, ended, endOf, Effect, runOf, shaped, readThen, relocateOf, relocateRead}
 use Rattle.growth.specs.Demand3.{btfIn, isRefused}
 use Rattle.growth.specs.Proved.{btf-in}
-use Rattle.order.specs.AnyOrder.{isAccepted, Sortable, Reordered, alone}
+use Rattle.order.specs.AnyOrder.{Sortable, Reordered, alone}
 use Rattle.order.specs.Lists.{any-order, sortable-reordered}
 
 -- As many records

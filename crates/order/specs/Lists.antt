@@ -1,16 +1,16 @@
 -- A list in any order: proved.
 use Prim.Native.Nat.{ℕ}
 use mathlib.Core.Path.{_≡_, refl, sym, ap, _∙_, subst}
-use mathlib.Core.Bool.{Bool, true, false}
+use mathlib.Core.Bool.{false}
 use mathlib.Core.List.{List, [], _∷_, _++_}
 use Rattle.view.specs.View.{View}
 use Rattle.rules.specs.declared.Record.{Record}
 use Rattle.rules.specs.declared.Answer.{Answer}
 use Rattle.rules.specs.declared.Answer.the-variants.{Applied, Poisoned, Refused}
-use Rattle.rules.specs.Record.{Outcome, recordOf}
+use Rattle.rules.specs.Record.{recordOf}
 use Rattle.rules.specs.List.{Run, before, follow, listOf}
 use Rattle.growth.specs.Demand3.{isRefused}
-use Rattle.order.specs.AnyOrder.{touches, NoCommon, isAccepted, ApartFrom, Sortable, Reordered, alone, AnyOrder}
+use Rattle.order.specs.AnyOrder.{NoCommon, isAccepted, ApartFrom, Sortable, Reordered, alone, AnyOrder}
 use Rattle.order.specs.Two.{no-common-sym, either-order, touches-kept}
 
 follow-on : (a : Answer) (xs : List ℕ) (f : List ℕ → Run) → isRefused a ≡ false → follow a xs f ≡ before a (f xs)

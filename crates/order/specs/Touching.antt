@@ -1,13 +1,12 @@
 -- What a record's answer depends on: proved.
-use Prim.Native.Nat.{ℕ, zero, suc, _+_, _-_, _*_, _≤_}
+use Prim.Native.Nat.{ℕ, _+_, _-_, _*_, _≤_}
 use mathlib.Core.Path.{_≡_, refl, sym, ap, ap₂, _∙_, subst}
 use mathlib.Core.Bool.{Bool, true, false, cond, not}
-use mathlib.Core.List.{List, [], _∷_, _++_}
-use mathlib.Core.Option.{Option, none, some}
+use mathlib.Core.List.{List, _++_}
 use native.Mathlib.Omega.{arith}
-use lib.ListN.{length, getD, take, drop}
+use lib.ListN.{getD, take, drop}
 use lib.Seq.{getD-take, take-add, take-take, drop-drop}
-use lib.Dec.{eqb, ltb}
+use lib.Dec.{ltb}
 use borrow.Author.Tests.{eqb-true}
 use Rattle.view.specs.View.{View}
 use Rattle.rules.specs.declared.Refusal.{Refusal}
@@ -15,13 +14,11 @@ use Rattle.rules.specs.declared.Refusal.the-variants.{KindTooBig, NotInFunction
 use Rattle.rules.specs.declared.Write.{Write}
 use Rattle.rules.specs.declared.Write.the-variants.{Put, Poison}
 use Rattle.rules.specs.declared.Record.{Record}
-use Rattle.rules.specs.declared.Answer.{Answer}
-use Rattle.rules.specs.declared.Answer.the-variants.{Refused}
 use Rattle.rules.specs.Kinds.{enumValue}
 use Rattle.rules.specs.Refusal.{Reply, ok, refused}
 use Rattle.rules.specs.Apply.{Patch, done, stopped, code, class, isWide, patchFront, patch}
-use Rattle.rules.specs.Record.{relocated, Outcome, shown, outcome, refuse, apply, indexOf, inFunction, recordOf}
-use Rattle.kept.specs.Kept.{bytesOf, refusalOf, takesNext, reach, mapped, reachAt}
+use Rattle.rules.specs.Record.{relocated, Outcome, outcome, refuse, apply, indexOf, inFunction, recordOf}
+use Rattle.kept.specs.Kept.{bytesOf, takesNext, reach, mapped, reachAt}
 use Rattle.kept.specs.KeptLaws.{keeps}
 use Rattle.kept.specs.Order.{drop-take, later}
 use Rattle.order.specs.AnyOrder.{span, Touching}

@@ -1,25 +1,19 @@
 -- Two records in either order: proved.
-use Prim.Native.Nat.{ℕ, zero, suc, _+_, _*_, _≤_, _<_}
-use mathlib.Core.Path.{_≡_, refl, sym, ap, _∙_, subst}
-use mathlib.Core.Bool.{Bool, true, false, cond, _&&_, _||_, not}
-use mathlib.Core.List.{List, [], _∷_}
-use mathlib.Core.Logic.{_⊎_, inl, inr}
-use mathlib.Core.Option.{Option, none, some}
+use Prim.Native.Nat.{ℕ, suc, _+_, _*_, _≤_, _<_}
+use mathlib.Core.Path.{_≡_, refl, sym, ap, _∙_}
+use mathlib.Core.Bool.{Bool, true, false, cond, _||_, not}
+use mathlib.Core.List.{List}
+use mathlib.Core.Option.{none}
 use native.Mathlib.Omega.{arith}
 use native.Mathlib.Decide.{decLt}
-use lib.ListN.{length, drop, take}
-use lib.Dec.{eqb, ltb}
-use borrow.Author.Tests.{eq-eqb, eqb-true}
+use lib.ListN.{length, drop}
+use lib.Dec.{eqb}
+use borrow.Author.Tests.{eq-eqb}
 use Rattle.view.specs.View.{View}
-use Rattle.rules.specs.declared.Refusal.{Refusal}
 use Rattle.rules.specs.declared.Write.{Write}
-use Rattle.rules.specs.declared.Write.the-variants.{Put, Poison}
 use Rattle.rules.specs.declared.Record.{Record}
-use Rattle.rules.specs.declared.Answer.{Answer}
-use Rattle.rules.specs.Kinds.{enumValue}
-use Rattle.rules.specs.Refusal.{Reply, ok, refused}
-use Rattle.rules.specs.Apply.{Patch, done, stopped, code, class, isWide, hasSlot, patch}
-use Rattle.rules.specs.Record.{relocated, Outcome, shown, outcome, apply, indexOf, inFunction, recordOf}
+use Rattle.rules.specs.Apply.{Patch, done, stopped, code, class, isWide, patch}
+use Rattle.rules.specs.Record.{Outcome, shown, outcome, apply, indexOf, inFunction, recordOf}
 use Rattle.kept.specs.Kept.{bytesOf, refusalOf, takesNext, reach, reachAt}
 use Rattle.kept.specs.KeptLaws.{keeps, reaches}
 use Rattle.kept.specs.Order.{Apart, apart, later, at}

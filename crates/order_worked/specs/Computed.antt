@@ -1,5 +1,5 @@
 -- The examples, computed from their bytes.
-use mathlib.Core.Path.{_≡_, refl}
+use mathlib.Core.Path.{refl}
 use Rattle.words.specs.Num.{numAt, section}
 use Rattle.words.specs.Put.{putAt}
 use Rattle.kinds.specs.Kinds.{isKind, extraBytes, entryBytes, hasSize, hasType, encodes, entryOf}

@@ -1,11 +1,9 @@
 -- Q-13 by computing: two records in both orders; and two that touch a common instruction, which differ.
-use Prim.Native.Nat.{ℕ, zero, suc}
+use Prim.Native.Nat.{ℕ}
 use mathlib.Core.Path.{_≡_}
 use mathlib.Core.Bool.{Bool, true, false}
-use mathlib.Core.List.{List, [], _∷_, _++_}
-use Rattle.view.specs.View.{View}
+use mathlib.Core.List.{List, [], _∷_}
 use Rattle.rules.specs.declared.Record.{Record}
-use Rattle.rules.specs.declared.Answer.the-variants.{Applied}
 use Rattle.rules.specs.Record.{recordOf}
 use Rattle.rules.specs.List.{listOf}
 use Rattle.growth.specs.Demand3.{btfIn, isRefused}

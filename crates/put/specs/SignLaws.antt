@@ -8,7 +8,7 @@ use native.Mathlib.Nat.{not-suc-le-zero}
 use borrow.Author.Tests.{le-ltb, leb-false}
 use lib.Dec.{T, ltb}
 use lib.IntN.{ℤ, pos, negsuc, natAbs, _-ℤ_}
-use lib.Signed.{mag, leZ, nonNeg}
+use lib.Signed.{leZ, nonNeg}
 use mir.Syntax.{Width, w32, w64}
 use mir.Facts.{sfits-widen}
 use mir.Val.{bits, hbits, Fits, SFits, ofZ, toZ, sel}

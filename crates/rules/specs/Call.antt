@@ -1,6 +1,6 @@
 -- The whole call, from bytes to bytes (document 01, section 3): 18, the local BTF, the target BTF, then the records in order.
 use Prim.Native.Nat.{ℕ, zero, suc, _+_, _*_, _/_, _%_}
-use mathlib.Core.Bool.{Bool, true, false, cond, _&&_, not}
+use mathlib.Core.Bool.{Bool, true, false, cond, _&&_}
 use mathlib.Core.List.{List, [], _∷_}
 use lib.ListN.{length}
 use lib.Dec.{eqb, leb}
@@ -9,7 +9,7 @@ use Rattle.btf.specs.declared.Btf.{Btf}
 use Rattle.btf.specs.declared.Answer.{Answer as Reading}
 use Rattle.btf.specs.declared.Answer.the-variants.{Read, Bad, Over, TooShort}
 use Rattle.btf.specs.Table.{decode, tabled}
-use Rattle.view.specs.View.{View, docView, tabView}
+use Rattle.view.specs.View.{View, docView}
 use Rattle.rules.specs.declared.Record.{Record}
 use Rattle.rules.specs.declared.Answer.{Answer}
 use Rattle.rules.specs.declared.Answer.the-variants.{Applied, Poisoned, Refused}
@@ -20,7 +20,7 @@ use Rattle.rules.specs.declared.Ending.the-variants.{Done, BadBtf, OverL
 use Rattle.rules.specs.declared.Said.{Said}
 use Rattle.rules.specs.Limits.{maxInsns}
 use Rattle.rules.specs.Refusal.{number, returned}
-use Rattle.rules.specs.List.{Run, listOf}
+use Rattle.rules.specs.List.{listOf}
 
 -- The records
 

@@ -1,6 +1,6 @@
 -- What the words of a type and of its entries say (document 01, section 4; the kernel's BTF document).
-use Prim.Native.Nat.{ℕ, zero, suc, _+_, _*_, _/_, _%_, _^_}
-use mathlib.Core.Bool.{Bool, true, false, cond}
+use Prim.Native.Nat.{ℕ, _+_, _*_, _/_, _%_, _^_}
+use mathlib.Core.Bool.{Bool, cond}
 use lib.ListN.{getD}
 use lib.Dec.{eqb}
 use Rattle.kinds.specs.declared.Entry.{Entry}

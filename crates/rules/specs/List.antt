@@ -1,12 +1,11 @@
 -- The list of records equals its records one by one, up to the first refusal (document 01, sections 3 and 11).
-use Prim.Native.Nat.{ℕ, zero, suc, _+_}
-use mathlib.Core.Bool.{Bool, true, false, cond}
+use Prim.Native.Nat.{ℕ, suc}
 use mathlib.Core.List.{List, [], _∷_}
 use Rattle.view.specs.View.{View}
 use Rattle.rules.specs.declared.Record.{Record}
 use Rattle.rules.specs.declared.Answer.{Answer}
 use Rattle.rules.specs.declared.Answer.the-variants.{Applied, Poisoned, Refused}
-use Rattle.rules.specs.Record.{Outcome, recordOf}
+use Rattle.rules.specs.Record.{recordOf}
 
 -- The answers, up to and including the first refusal, and the instructions afterwards
 pub record Run : Type 0 where

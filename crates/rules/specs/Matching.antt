@@ -2,8 +2,8 @@
 --   local:  struct a { int x; int y; };          "0:1" is .y
 --   target: struct a___v2 { char c; struct { int x; int y; }; };
 --   a___v2 is a candidate; the search for `y` passes c, goes down into the unnamed struct, finds y there at bit 32 and adds 32 on the way back.
-use Prim.Native.Nat.{ℕ, zero, suc, _+_, _*_}
-use mathlib.Core.Bool.{Bool, true, false, cond, _&&_, not}
+use Prim.Native.Nat.{ℕ, zero, suc, _+_}
+use mathlib.Core.Bool.{Bool, cond, _&&_, not}
 use mathlib.Core.List.{List, [], _∷_}
 use mathlib.Core.Option.{Option, none, some}
 use lib.ListN.{length}
@@ -26,11 +26,10 @@ use Rattle.rules.specs.declared.Search.{Search}
 use Rattle.rules.specs.declared.Search.the-variants.{Found, Missing, Failed}
 use Rattle.rules.specs.declared.Event.{Event}
 use Rattle.rules.specs.declared.Event.the-variants.{Nothing, Matched, Bad}
-use Rattle.rules.specs.declared.Refusal.{Refusal}
 use Rattle.rules.specs.declared.Refusal.the-variants.{MaximumNesting, Unresolved, TooDeep}
 use Rattle.rules.specs.Fields.{memberBits, entryAt}
 use Rattle.rules.specs.Refusal.{Reply, ok, refused, bind, bitOffset}
-use Rattle.rules.specs.Types.{resolve, resolved, sizeOf, sized, isEmpty, sameText, sameFlavourless, typesCompatible, fieldsCompatible}
+use Rattle.rules.specs.Types.{resolve, resolved, isEmpty, sameText, sameFlavourless, typesCompatible, fieldsCompatible}
 use Rattle.rules.specs.Access.{member, element, nowhere, elementBits, Access, whole, variant, path}
 use Rattle.rules.specs.Value.{plain, fieldValue, variantValue, typeValue}
 

@@ -1,8 +1,7 @@
 -- One record, in document 01's order: 4, 5, type id, access string offset, parse, 15, the type's chain, access, candidates, 10, apply (section 3).
-use Prim.Native.Nat.{ℕ, zero, suc, _+_, _-_, _/_}
+use Prim.Native.Nat.{ℕ, zero, suc, _-_, _/_}
 use mathlib.Core.Bool.{Bool, true, false, cond, _&&_, _||_, not}
 use mathlib.Core.List.{List, [], _∷_}
-use lib.ListN.{length}
 use lib.Dec.{leb, eqb, ltb}
 use Rattle.kinds.specs.Types.{Ty}
 use Rattle.view.specs.View.{View}

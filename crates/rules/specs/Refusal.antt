@@ -1,6 +1,6 @@
 -- Why a record is refused, with document 01's numbers (section 3), and the stages of a record's work.
-use Prim.Native.Nat.{ℕ, zero, suc}
-use mathlib.Core.Bool.{Bool, true, false, cond}
+use Prim.Native.Nat.{ℕ}
+use mathlib.Core.Bool.{cond}
 use mathlib.Core.List.{List, [], _∷_}
 use lib.Dec.{ltb}
 use Rattle.rules.specs.declared.Refusal.{Refusal}

@@ -1,10 +1,9 @@
 -- One turn of each walk as the code's loops meet it: with n turns left and then n - 1, or at an index k and then k + 1.
-use Prim.Native.Nat.{ℕ, zero, suc, _+_, _-_, _*_, _≤_, _<_}
+use Prim.Native.Nat.{ℕ, zero, suc, _+_, _-_, _*_, _<_}
 use mathlib.Core.Path.{_≡_, refl, sym, ap, _∙_}
-use mathlib.Core.Bool.{Bool, true, false, cond}
-use mathlib.Core.List.{List, [], _∷_}
-use mathlib.Core.Option.{Option, none, some}
-use native.Mathlib.Omega.{arith}
+use mathlib.Core.Bool.{cond}
+use mathlib.Core.List.{List}
+use mathlib.Core.Option.{some}
 use native.Mathlib.Nat.{not-suc-le-zero}
 use native.Mathlib.Numerals.{sub-one}
 use lib.ListN.{length, getD, drop}
@@ -12,7 +11,6 @@ use lib.Seq.{drop-cons}
 use lib.Dec.{eqb, leb}
 use Rattle.rules.specs.Kinds.{ARRAY, isModifier, sizedByRef}
 use Rattle.rules.specs.Limits.{maxResolveDepth, maxSpecLen}
-use Rattle.kinds.specs.declared.Entry.{Entry}
 use Rattle.kinds.specs.Types.{Ty}
 use Rattle.view.specs.View.{View}
 use Rattle.view.specs.Places.{noEntry}
@@ -27,7 +25,7 @@ use Rattle.rules.specs.declared.Event.{Event}
 use Rattle.rules.specs.declared.Matches.{Matches}
 use Rattle.rules.specs.declared.Refusal.the-variants.{MaximumNesting, Unresolved}
 use Rattle.rules.specs.Fields.{entryAt, memberBits}
-use Rattle.rules.specs.Refusal.{Reply, ok, refused, bind}
+use Rattle.rules.specs.Refusal.{ok, refused, bind}
 use Rattle.rules.specs.Types.{chain, resolve, resolved, ownSize, times, elements, isEmpty, sameText, sameFlavourless, andThen, both, meet, pairs, typesWithin, meetFields, fieldsWithin}
 use Rattle.rules.specs.Access.{Walk, last, localStep, walked, localSteps}
 use Rattle.rules.specs.Value.{aligned, endFrom, bitfieldLoad}

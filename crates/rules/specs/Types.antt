@@ -12,16 +12,14 @@ use Rattle.kinds.specs.Types.{Ty}
 use Rattle.view.specs.View.{View}
 use Rattle.rules.specs.declared.Resolved.{Resolved}
 use Rattle.rules.specs.declared.Resolved.the-variants.{At, Endless}
-use Rattle.rules.specs.declared.Why.{Why}
 use Rattle.rules.specs.declared.Why.the-variants.{ChainTooLong, KindWithoutSize, ProductTooBig}
 use Rattle.rules.specs.declared.Sized.{Sized}
 use Rattle.rules.specs.declared.Sized.the-variants.{Bytes, Unsized}
 use Rattle.rules.specs.declared.Compat.{Compat}
 use Rattle.rules.specs.declared.Compat.the-variants.{Compatible, Different, Broken, Beyond}
-use Rattle.rules.specs.declared.Refusal.{Refusal}
 use Rattle.rules.specs.declared.Refusal.the-variants.{Unresolved}
 use Rattle.rules.specs.Fields.{intOffset}
-use Rattle.rules.specs.Refusal.{Reply, ok, refused}
+use Rattle.rules.specs.Refusal.{Reply, refused}
 
 -- Chains
 

@@ -1,19 +1,16 @@
 -- What a match is worth (document 01, section 6; the crate's compute_field_relocation, compute_enum_relocation, compute_type_relocation).
 use Prim.Native.Nat.{ℕ, zero, suc, _+_, _-_, _*_, _/_}
-use mathlib.Core.Bool.{Bool, true, false, cond, _&&_}
-use mathlib.Core.List.{List, [], _∷_}
+use mathlib.Core.Bool.{cond, _&&_}
 use mathlib.Core.Option.{Option, none, some}
 use lib.Dec.{leb, eqb}
 use Rattle.rules.specs.Kinds.{INT, ENUM, isEnum, fieldByteOffset, fieldByteSize, fieldExists, fieldSigned, fieldLShift, typeIdTarget, typeExists}
 use Rattle.words.specs.Sign.{extended}
 use Rattle.kinds.specs.declared.Entry.{Entry}
 use Rattle.kinds.specs.Types.{Ty}
-use Rattle.view.specs.View.{View}
 use Rattle.rules.specs.declared.Accessor.{Accessor}
 use Rattle.rules.specs.declared.Typing.the-variants.{Typed, Untyped}
 use Rattle.rules.specs.declared.Value.{Value}
 use Rattle.rules.specs.declared.Load.{Load}
-use Rattle.rules.specs.declared.Refusal.{Refusal}
 use Rattle.rules.specs.declared.Refusal.the-variants.{Unresolved, WrongKind}
 use Rattle.rules.specs.Fields.{kflag, intSigned, bitfieldSize, rawValue, entryAt}
 use Rattle.rules.specs.Refusal.{Reply, ok, refused, bind}

@@ -1,12 +1,11 @@
 -- The laws of bits counted and masked.
 -- Assumes nothing.
-use mathlib.Core.Path.{_≡_, refl, sym, ap, _∙_}
-use mathlib.Core.Bool.{Bool, true, false}
-use Prim.Native.Nat.{ℕ, _+_, _-_, _*_, _/_, _%_, _^_, _<_}
+use mathlib.Core.Path.{_≡_, sym, ap, _∙_}
+use Prim.Native.Nat.{ℕ, _+_, _-_, _*_, _/_, _%_, _^_}
 use native.Mathlib.Nat.{add-zero}
 use native.Mathlib.Omega.{arith}
 use lib.Pow.{shr-shr, pow-pos}
-use lib.Bits.{bitAnd, and-high}
+use lib.Bits.{and-high}
 use lib.Count.{ones, ones-step, ones-cat}
 use Rattle.words.specs.Bits.{bit, onesMasked}
 

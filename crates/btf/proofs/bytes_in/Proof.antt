@@ -1,8 +1,10 @@
 -- `btf::bytes_in` meets its contract.
 -- Assumes nothing.
 use native.Mathlib.Omega.{arith}
-use mathlib.Core.Path.{_≡_}
+use mathlib.Core.Path.{_≡_, _∙_}
 use Prim.Native.Nat.{_/_, _%_}
+use Rattle.kinds.specs.Kinds.{tailOf}
+use Rattle.kinds.specs.Rows.{columns-row}
 use Rattle.kinds.specs.Types.{typeAt}
 use Rattle.kinds.specs.Fields.{long, extra-small}
 use borrow.Author.Needs.{needs}
@@ -18,17 +20,20 @@ vlen-is : (c : tie.After-u32-at) → let a = c .before .before .before .before .
 unfolding typeAt
 vlen-is c = rw (c .u32-at .ensures)
 
+tail-is : (c : tie.After-tail-in) → c .tail-in .result ≡ tailOf (c .before .u32-at .result / 16777216 % 32)
+tail-is c = c .tail-in .ensures ∙ columns-row _ _ _ (c .before .before .before .before .before .pre .1)
+
 add-result : tie.Need-add-result
-add-result c = omega (arith, extra-small _ _ (c .tail-in .ensures))
+add-result c = omega (arith, extra-small _ _ (tail-is c))
 
 mul-result : tie.Need-mul-result
-mul-result c = omega (arith, long _ _ _ (kind-is (c .before)) _ _ (c .tail-in .ensures) (vlen-is (c .before)))
+mul-result c = omega (arith, long _ _ _ (kind-is (c .before)) _ _ (tail-is c) (vlen-is (c .before)))
 
 add-result-2 : tie.Need-add-result-2
-add-result-2 c = omega (arith, long _ _ _ (kind-is (c .before)) _ _ (c .tail-in .ensures) (vlen-is (c .before)))
+add-result-2 c = omega (arith, long _ _ _ (kind-is (c .before)) _ _ (tail-is c) (vlen-is (c .before)))
 
 returns : tie.Need-returns
-returns c = long _ _ _ (kind-is (c .before)) _ _ (c .tail-in .ensures) (vlen-is (c .before)) .is
+returns c = long _ _ _ (kind-is (c .before)) _ _ (tail-is c) (vlen-is (c .before)) .is
 
 pub bytes-in-spec : {M : Type 1} → statement M
 bytes-in-spec =

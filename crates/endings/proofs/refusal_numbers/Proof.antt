@@ -1,7 +1,6 @@
 use Rattle.endings.specs.Endings.{refusalNumbers}
 use Rattle.rules.specs.Refusal.{returned}
-use mathlib.Core.Path.{_≡_, refl, sym, _∙_}
-use borrow.Author.Tests.{eq-eqb, ne-eqb, lt-ltb, le-ltb, le-leb, lt-leb}
+use mathlib.Core.Path.{sym}
 use borrow.Author.Needs.{needs}
 use Rattle.endings.proofs.refusal_numbers.Statement.{statement}
 use Rattle.endings.proofs.refusal_numbers.Tie as tie

@@ -7,11 +7,6 @@ use lib.ListN.{take}
 use borrow.Author.Needs.{needs}
 use Rattle.view.specs.View.{tabView}
 use Rattle.member.specs.Replies.{replyOf}
-use Rattle.matching.specs.Candidates.{folded, fieldEvents}
-use Rattle.matching.proofs.Events.{own-fold, field-given}
-use Rattle.matching.proofs.Folding.{Folding, folding-first, folding-over, less, pass-next, keep-next, halt}
-use Rattle.matching.proofs.field_matches.Statement.{statement}
-use Rattle.matching.proofs.field_matches.Tie as tie
 use Rattle.candidate.specs.Events.{fieldEvents}
 use Rattle.fold.specs.Folded.{folded}
 use Rattle.fold.proofs.Events.{own-fold, field-given}
