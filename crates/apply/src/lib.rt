@@ -6,25 +6,15 @@ use patch::patch;
 use rules::Answer;
 use rules::Record;
 use rules::Refusal;
-use rules::Write;
 use writing::Relocated;
+use writing::shown_answer;
 ghost use mathlib.Core.Path.{_≡_};
 ghost use Rattle.view.specs.View.{tabView};
-ghost use Rattle.rules.specs.Record.{recordOf, apply, shown};
+ghost use Rattle.rules.specs.Record.{recordOf, apply};
 ghost use Rattle.writing.specs.Replies.{writeOf};
 ghost use Rattle.apply.specs.Applied.{outcomeOf};
 
 const MAX_KIND: u32 = 11;
-
-// What an applied record shows.
-fn shown_answer(write: Write) -> Answer
-    ensures { λ r. ⌜ r ≡ shown write ⌝ }
-{
-    match write {
-        Write::Put(n, z) => Answer::Applied(n),
-        Write::Poison => Answer::Poisoned,
-    }
-}
 
 // What was computed, applied to instruction `index`.
 fn apply_write(insns: &mut [u8], index: u32, computed: Relocated) -> Answer

@@ -8,8 +8,8 @@ use rules::Answer;
 use rules::Ending;
 use rules::Record;
 use rules::Said;
-use rules::Write;
 use writing::Relocated;
+use writing::shown_answer;
 ghost use mathlib.Core.Path.{_≡_};
 ghost use Prim.Native.Nat.{_≤_, _+_, _*_, _-_, _/_, min};
 ghost use lib.ListN.{length};
@@ -26,15 +26,6 @@ pub enum Reported {
     Needed(u64),
 }
 
-fn shown_by(write: Write) -> Answer
-    ensures { λ r. ⌜ r ≡ rule.shown write ⌝ }
-{
-    match write {
-        Write::Put(number, _) => Answer::Applied(number),
-        Write::Poison => Answer::Poisoned,
-    }
-}
-
 // What a record was answered, by what it writes.
 fn answer_again(
     local: &[u8],
@@ -48,7 +39,7 @@ fn answer_again(
     ensures { λ r. ⌜ r ≡ answered (rule.relocated (tabView (now (local .entry)) (now (ltable .entry)) lbtf) (tabView (now (target .entry)) (now (ttable .entry)) tbtf) relo) ⌝ }
 {
     match record_write(local, ltable, lbtf, target, ttable, tbtf, relo) {
-        Relocated::Writes(write) => shown_by(write),
+        Relocated::Writes(write) => shown_answer(write),
         Relocated::Refused(refusal) => Answer::Refused(refusal),
     }
 }

@@ -2,6 +2,7 @@
 use btf::Btf;
 use member::Valued;
 use member::plain_value;
+use rules::Answer;
 use rules::Matches;
 use rules::Refusal;
 use rules::Resize;
@@ -15,7 +16,7 @@ ghost use mathlib.Core.Path.{_≡_};
 ghost use Rattle.view.specs.View.{tabView};
 ghost use Rattle.rules.specs.Kinds.{asksExistence};
 ghost use Rattle.rules.specs.Fields.{intSigned};
-ghost use Rattle.rules.specs.Record.{resizable, resizing, writing, absent, conclude, computed};
+ghost use Rattle.rules.specs.Record.{resizable, resizing, writing, absent, conclude, computed, shown};
 ghost use Rattle.member.specs.Replies.{replyOf};
 ghost use Rattle.writing.specs.Replies.{worthOf, writeOf};
 
@@ -203,5 +204,15 @@ pub fn write_computed(
                 }
             }
         }
+    }
+}
+
+// What an applied record shows.
+pub fn shown_answer(write: Write) -> Answer
+    ensures { λ r. ⌜ r ≡ shown write ⌝ }
+{
+    match write {
+        Write::Put(number, _) => Answer::Applied(number),
+        Write::Poison => Answer::Poisoned,
     }
 }

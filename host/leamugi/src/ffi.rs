@@ -95,112 +95,54 @@ pub(crate) struct Said {
     pub numbers: [u64; SAID],
 }
 
-pub(crate) fn read(btf: &[u8], table: &mut [u32]) -> Said {
-    let mut numbers = [0; SAID];
-    // SAFETY: each pointer and length come from one slice or array; `table` and `numbers` are exclusively borrowed.
-    let number = unsafe {
-        leamugi_read(btf.as_ptr(), btf.len(), table.as_mut_ptr(), table.len(), numbers.as_mut_ptr(), numbers.len())
+/// A call, with what it is lent in order: `btf` a BTF that was read, `from` a slice to read, `into` a slice to write, `at` a number.
+/// Answers what it said in `said`.
+macro_rules! call {
+    (@ $name:ident $said:ident [$($done:expr),*]) => {
+        $name($($done,)* $said.as_mut_ptr(), $said.len())
     };
-    Said { number, numbers }
+    (@ $name:ident $said:ident [$($done:expr),*] btf $b:ident, $($rest:tt)*) => {
+        call!(@ $name $said [$($done,)* $b.bytes.as_ptr(), $b.bytes.len(), $b.table.as_ptr(), $b.table.len(), $b.numbers.as_ptr(), $b.numbers.len()] $($rest)*)
+    };
+    (@ $name:ident $said:ident [$($done:expr),*] from $s:ident, $($rest:tt)*) => {
+        call!(@ $name $said [$($done,)* $s.as_ptr(), $s.len()] $($rest)*)
+    };
+    (@ $name:ident $said:ident [$($done:expr),*] into $s:ident, $($rest:tt)*) => {
+        call!(@ $name $said [$($done,)* $s.as_mut_ptr(), $s.len()] $($rest)*)
+    };
+    (@ $name:ident $said:ident [$($done:expr),*] at $n:ident, $($rest:tt)*) => {
+        call!(@ $name $said [$($done,)* $n] $($rest)*)
+    };
+    // the report's buffer comes after what is said
+    (@ $name:ident $said:ident [$($done:expr),*] => $out:ident) => {
+        $name($($done,)* $said.as_mut_ptr(), $said.len(), $out.as_mut_ptr(), $out.len())
+    };
+    ($name:ident: $($rest:tt)*) => {{
+        let mut numbers = [0; SAID];
+        // SAFETY: each pointer and length come from one slice or array; those that are written are exclusively borrowed.
+        let number = unsafe { call!(@ $name numbers [] $($rest)*) };
+        Said { number, numbers }
+    }};
+}
+
+pub(crate) fn read(btf: &[u8], table: &mut [u32]) -> Said {
+    call!(leamugi_read: from btf, into table,)
 }
 
 pub(crate) fn relocate(local: &Read, target: &Read, insns: &mut [u8], section: u64, records: &[u8]) -> Said {
-    let mut numbers = [0; SAID];
-    // SAFETY: as in `read`; `insns` and `numbers` are exclusively borrowed, the others shared.
-    let number = unsafe {
-        leamugi_relocate_read(
-            local.bytes.as_ptr(),
-            local.bytes.len(),
-            local.table.as_ptr(),
-            local.table.len(),
-            local.numbers.as_ptr(),
-            local.numbers.len(),
-            target.bytes.as_ptr(),
-            target.bytes.len(),
-            target.table.as_ptr(),
-            target.table.len(),
-            target.numbers.as_ptr(),
-            target.numbers.len(),
-            insns.as_mut_ptr(),
-            insns.len(),
-            section,
-            records.as_ptr(),
-            records.len(),
-            numbers.as_mut_ptr(),
-            numbers.len(),
-        )
-    };
-    Said { number, numbers }
+    call!(leamugi_relocate_read: btf local, btf target, into insns, at section, from records,)
 }
 
 pub(crate) fn relocate_reported(local: &Read, target: &Read, insns: &mut [u8], section: u64, records: &[u8], out: &mut [u8]) -> Said {
-    let mut numbers = [0; SAID];
-    // SAFETY: as in `read`; `insns`, `numbers` and `out` are exclusively borrowed, the others shared.
-    let number = unsafe {
-        leamugi_relocate_reported(
-            local.bytes.as_ptr(),
-            local.bytes.len(),
-            local.table.as_ptr(),
-            local.table.len(),
-            local.numbers.as_ptr(),
-            local.numbers.len(),
-            target.bytes.as_ptr(),
-            target.bytes.len(),
-            target.table.as_ptr(),
-            target.table.len(),
-            target.numbers.as_ptr(),
-            target.numbers.len(),
-            insns.as_mut_ptr(),
-            insns.len(),
-            section,
-            records.as_ptr(),
-            records.len(),
-            numbers.as_mut_ptr(),
-            numbers.len(),
-            out.as_mut_ptr(),
-            out.len(),
-        )
-    };
-    Said { number, numbers }
+    call!(leamugi_relocate_reported: btf local, btf target, into insns, at section, from records, => out)
 }
 
 /// What stands at an id: `number` is the kind; the numbers are the name's offset in the strings and length, size, referred type, entries.
 pub(crate) fn type_at(btf: &Read, id: u32) -> Said {
-    let mut numbers = [0; SAID];
-    // SAFETY: as in `read`; `numbers` is exclusively borrowed, the others shared.
-    let number = unsafe {
-        leamugi_type(
-            btf.bytes.as_ptr(),
-            btf.bytes.len(),
-            btf.table.as_ptr(),
-            btf.table.len(),
-            btf.numbers.as_ptr(),
-            btf.numbers.len(),
-            id,
-            numbers.as_mut_ptr(),
-            numbers.len(),
-        )
-    };
-    Said { number, numbers }
+    call!(leamugi_type: btf btf, at id,)
 }
 
 /// The k-th entry of a type: `number` is its type; the numbers are its name's offset in the strings and length, and its two words.
 pub(crate) fn entry_at(btf: &Read, id: u32, k: u32) -> Said {
-    let mut numbers = [0; SAID];
-    // SAFETY: as in `read`; `numbers` is exclusively borrowed, the others shared.
-    let number = unsafe {
-        leamugi_entry(
-            btf.bytes.as_ptr(),
-            btf.bytes.len(),
-            btf.table.as_ptr(),
-            btf.table.len(),
-            btf.numbers.as_ptr(),
-            btf.numbers.len(),
-            id,
-            k,
-            numbers.as_mut_ptr(),
-            numbers.len(),
-        )
-    };
-    Said { number, numbers }
+    call!(leamugi_entry: btf btf, at id, at k,)
 }

@@ -9,13 +9,13 @@ use Rattle.pass.proofs.pass_high.Statement.{statement}
 use Rattle.pass.proofs.pass_high.Tie as tie
 
 past-pairs-requires : tie.Need-past-pairs-requires
-past-pairs-requires c κs = listed (c .before .before .before .pre .0) 8 (omega arith) (omega arith)
+past-pairs-requires c κs = listed (c .before .before .before .pre .0) _ (omega arith) (omega arith)
 
 past-variables-requires : tie.Need-past-variables-requires
-past-variables-requires c κs = listed (c .before .before .before .pre .0) 12 (omega arith) (omega arith)
+past-variables-requires c κs = listed (c .before .before .before .pre .0) _ (omega arith) (omega arith)
 
 past-names-requires : tie.Need-past-names-requires
-past-names-requires c κs = listed (c .before .before .before .pre .0) 12 (omega arith) (omega arith)
+past-names-requires c κs = listed (c .before .before .before .pre .0) _ (omega arith) (omega arith)
 
 returns : tie.Need-returns
 returns c = c .past-pairs .ensures ∙ step-parameters (c .before .before .before .before .pre .0) (c .before .match .keys1)

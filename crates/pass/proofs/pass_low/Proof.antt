@@ -9,10 +9,10 @@ use Rattle.pass.proofs.pass_low.Statement.{statement}
 use Rattle.pass.proofs.pass_low.Tie as tie
 
 past-pairs-requires : tie.Need-past-pairs-requires
-past-pairs-requires c κs = listed (c .before .before .before .pre .0) 12 (omega arith) (omega arith)
+past-pairs-requires c κs = listed (c .before .before .before .pre .0) _ (omega arith) (omega arith)
 
 past-names-requires : tie.Need-past-names-requires
-past-names-requires c κs = listed (c .before .before .before .before .pre .0) 8 (omega arith) (omega arith)
+past-names-requires c κs = listed (c .before .before .before .before .pre .0) _ (omega arith) (omega arith)
 
 returns : tie.Need-returns
 returns c = step-typed (c .before .before .before .pre .0) (typed-keys (inl (c .match .keys1)))

@@ -6,7 +6,7 @@ use Rattle.reporting.proofs.answer_again.Statement.{statement}
 use Rattle.reporting.proofs.answer_again.Tie as tie
 
 returns : tie.Need-returns
-returns c = c .shown-by .ensures ∙ rw (← (c .before .before .before .before .record-write .ensures), c .before .before .write .given .1)
+returns c = c .shown-answer .ensures ∙ rw (← (c .before .before .before .before .record-write .ensures), c .before .before .write .given .1)
 
 returns-2 : tie.Need-returns-2
 returns-2 c = rw (← (c .before .before .before .record-write .ensures), c .before .refusal .given .1)

@@ -1,7 +1,9 @@
+-- `writing::shown_answer` meets its contract.
+-- Assumes nothing.
 use mathlib.Core.Path.{sym}
 use borrow.Author.Needs.{needs}
-use Rattle.apply.proofs.shown_answer.Statement.{statement}
-use Rattle.apply.proofs.shown_answer.Tie as tie
+use Rattle.writing.proofs.shown_answer.Statement.{statement}
+use Rattle.writing.proofs.shown_answer.Tie as tie
 
 returns : tie.Need-returns
 returns c = sym (rw (c .before .write .given .1))
