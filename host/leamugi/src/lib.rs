@@ -84,7 +84,10 @@ impl Btf {
         match said.number {
             0 => {
                 table.truncate(said.numbers[4] as usize + 1);
-                table.shrink_to_fit();
+                // a few entries are not worth moving the table
+                if table.capacity() - table.len() > 1024 {
+                    table.shrink_to_fit();
+                }
                 Ok(Btf { bytes, table, numbers: said.numbers })
             }
             2 => Err(BtfRefusal::OverLimit),
@@ -105,6 +108,11 @@ impl Btf {
     /// The bytes that were read.
     pub fn bytes(&self) -> &[u8] {
         &self.bytes
+    }
+
+    /// The bytes that were read, handed back: reading copies nothing.
+    pub fn into_bytes(self) -> Vec<u8> {
+        self.bytes
     }
 
     /// What stands at an id; void at 0 and past the last.
