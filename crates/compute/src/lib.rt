@@ -25,8 +25,8 @@ use writing::Relocated;
 use writing::conclude_from;
 use writing::write_computed;
 ghost use mathlib.Core.Path.{_≡_};
-ghost use Prim.Native.Nat.{_+_, _*_, _≤_};
-ghost use lib.ListN.{length, take};
+ghost use Prim.Native.Nat.{_+_, _*_};
+ghost use lib.ListN.{take};
 ghost use Rattle.view.specs.View.{tabView};
 ghost use Rattle.rules.specs.Record.{accessed};
 ghost use Rattle.rules.specs.Refusal.{bind};
@@ -42,11 +42,18 @@ ghost use Rattle.compute.specs.Endless.{endlessAfter};
 
 const TYPE_ID_LOCAL: u32 = 6;
 
-// Record number k of a list.
+// Record number k of a list; past its end all is 0.
 pub fn record_at(records: &[u8], k: usize) -> Record
-    requires { ⌜ 16 * k + 16 ≤ length (now records) ⌝ }
     ensures { λ r. ⌜ r ≡ recordAt (now (records .entry)) k ⌝ }
 {
+    if k > records.len() / 16 {
+        return Record {
+            offset: 0,
+            typ: 0,
+            access: 0,
+            kind: 0,
+        };
+    }
     let at = 16 * k;
     Record {
         offset: u32_at(records, at),

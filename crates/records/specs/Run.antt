@@ -1,5 +1,5 @@
 -- A list of records as a loop goes through it: from record number k on, with so many left.
-use Prim.Native.Nat.{ℕ, suc, _+_, _*_, _-_, _/_, _^_, _≤_, _<_}
+use Prim.Native.Nat.{ℕ, suc, _+_, _-_, _/_, _^_, _≤_, _<_}
 use mathlib.Core.Path.{_≡_, refl, sym, ap, _∙_}
 use mathlib.Core.List.{List}
 use native.Mathlib.Omega.{arith}
@@ -84,10 +84,6 @@ module _ (L T : View) (section : ℕ) (rs xs₀ : List ℕ) where
       record { few = omega arith; all = e; small = s; long = refl; rest = ap (λ (m : ℕ). runFrom L T section rs 0 m xs₀) z ∙ run-whole L T section rs xs₀ }
 
 module _ {L T : View} {section : ℕ} {rs xs₀ : List ℕ} {n k : ℕ} {xs : List ℕ} (g : Going L T section rs xs₀ n k xs) where
-  -- a record lies in the bytes
-  pub going-fits : k < n → 16 * k + 16 ≤ length rs
-  going-fits h = omega (arith, g .all, h)
-
   pub going-end : n ≤ k → record { said = ended Done n; insns = xs } ≡ runOf L T section xs₀ rs
   going-end h =
       let e : n ≡ k = omega (arith, g .few, h) in

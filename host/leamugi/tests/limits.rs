@@ -71,3 +71,32 @@ fn the_byte_limit_comes_before_the_header() {
     assert_eq!(Btf::read(vec![1; MAX_BYTES]).unwrap_err(), BtfRefusal::Bad { id: 0 });
     assert_eq!(Btf::read(vec![1; MAX_BYTES + 1]).unwrap_err(), BtfRefusal::OverLimit);
 }
+
+/// A type of id `id`, of another length than its neighbours': an INT of that size, a PTR to that id, a prototype of `id % 9` parameters.
+fn varied(id: u32) -> Vec<u8> {
+    let (info, third, rest) = match id % 3 {
+        0 => (1 << 24, id, vec![0; 4]),
+        1 => (2 << 24, id, vec![]),
+        _ => (13 << 24 | id % 9, 0, vec![0; 8 * (id % 9) as usize]),
+    };
+    [0, info, third].iter().flat_map(|word: &u32| word.to_le_bytes()).chain(rest).collect()
+}
+
+#[test]
+fn every_entry_of_a_table_that_is_filled_in_parts() {
+    for types in [1, 1023, 1025, 4095, 4096, 4097, 5119, 8191, 8192, 8193, 20_000] {
+        let section: Vec<u8> = (1..=types).flat_map(varied).collect();
+        let read = Btf::read(btf(&section, &[0])).expect("accepted");
+        assert_eq!(read.types(), types);
+        for id in 1..=types {
+            let found = read.type_at(id);
+            let said = (found.kind, found.size, found.referred, found.entries);
+            let made = match id % 3 {
+                0 => (1, u64::from(id), 0, 0),
+                1 => (2, 0, id, 0),
+                _ => (13, 0, 0, u64::from(id % 9)),
+            };
+            assert_eq!(said, made, "type {id} of {types}");
+        }
+    }
+}

@@ -3,7 +3,7 @@ use mathlib.Core.Path.{refl}
 use native.Mathlib.Omega.{arith}
 use borrow.Author.Needs.{needs}
 use Rattle.view.specs.View.{tabView}
-use Rattle.records.specs.Run.{Going, going-first, going-fits, going-end, going-refused, going-next}
+use Rattle.records.specs.Run.{Going, going-first, going-end, going-refused, going-next}
 use Rattle.records.proofs.Laws.{not-refused}
 use Rattle.records.proofs.run_records.Statement.{statement}
 use Rattle.records.proofs.run_records.Tie as tie
@@ -16,9 +16,6 @@ abbrev μ-loop : tie.MeasureT-loop
 
 loop-holds : tie.Need-loop-holds Inv-loop μ-loop
 loop-holds c = going-first _ _ _ _ _ _ refl (omega arith)
-
-record-at-requires : tie.Need-record-at-requires Inv-loop μ-loop
-record-at-requires c κs = going-fits (c .before .before .loop .inv) (c .before .loop-test .taken)
 
 same-length : tie.Need-same-length Inv-loop μ-loop
 same-length c = omega (arith, c .before .before .before .before .before .apply-record .kept .1 .1 .1 .1 .1 .1 .0, c .before .before .before .before .before .before .before .before .before .loop .inv .long)
@@ -48,7 +45,7 @@ run-records-spec =
     Inv-loop
     μ-loop
     loop-holds
-    record-at-requires
+    (λ c κs. search needs)
     (λ c κs. search needs)
     (λ c. search needs)
     same-length
