@@ -249,7 +249,7 @@ fn pass_high(types: &[u8], at: usize, kind: u32, count: u32, name: u32, typ: u32
     }
 }
 
-// The type at a place: where the next begins and how far it reaches. Its kind is compared, the frequent ones first, and not
+// The type at a place: where the next begins and how far it reaches. Its kind is compared with the bounds of a few ranges, and not
 // looked up: a jump by a table is foreseen badly (docs/PERFORMANCE.md).
 pub fn pass(types: &[u8], at: usize) -> Step
     ensures { λ r. ⌜ r ≡ stepAt (now (types .entry)) at ⌝ }
