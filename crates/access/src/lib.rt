@@ -3,8 +3,10 @@
 //     "0:1:1:0:2" on a is ((struct a *)p)[0].s.z[2]: the accessors are [0], .s, .z, [2]; the unnamed struct's 1 adds its bits alone.
 use btf::Btf;
 use rules::Accessor;
+use rules::FIELD_RSHIFT;
 use rules::Refusal;
 use rules::Step;
+use rules::TYPE_SIZE;
 use step::Placed;
 use step::Stepped;
 use step::next_step;
@@ -22,11 +24,6 @@ ghost use Rattle.rules.specs.Refusal.{refused, bind};
 ghost use Rattle.rules.specs.Access.{last, begun, fieldAccess, typeAccess, variantAt, enumAccess, localAccess};
 ghost use Rattle.text.specs.Replies.{listIn, partsOf};
 ghost use Rattle.access.specs.Replies.{walkedOn, accessOf, Room, Begun, Further};
-
-// The last field kind, and the last type kind.
-const FIELD_RSHIFT: u32 = 5;
-
-const TYPE_SIZE: u32 = 9;
 
 // Where a walk has come to: a type, by the first `count` of the steps, at a bit offset.
 pub struct Walk {

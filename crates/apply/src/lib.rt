@@ -4,6 +4,7 @@ use compute::record_write;
 use insn::Patched;
 use patch::patch;
 use rules::Answer;
+use rules::ENUM_VARIANT_VALUE;
 use rules::Record;
 use rules::Refusal;
 use writing::Relocated;
@@ -13,8 +14,6 @@ ghost use Rattle.view.specs.View.{tabView};
 ghost use Rattle.rules.specs.Record.{recordOf, apply};
 ghost use Rattle.writing.specs.Replies.{writeOf};
 ghost use Rattle.apply.specs.Applied.{outcomeOf};
-
-const MAX_KIND: u32 = 11;
 
 // What was computed, applied to instruction `index`.
 fn apply_write(insns: &mut [u8], index: u32, computed: Relocated) -> Answer
@@ -46,7 +45,7 @@ pub fn apply_record(
 ) -> Answer
     ensures { λ r. ⌜ outcomeOf r (now (insns .exit)) ≡ recordOf (tabView (now (local .entry)) (now (ltable .entry)) lbtf) (tabView (now (target .entry)) (now (ttable .entry)) tbtf) section (now (insns .entry)) relo ⌝ }
 {
-    if MAX_KIND < relo.kind {
+    if ENUM_VARIANT_VALUE < relo.kind {
         return Answer::Refused(Refusal::KindTooBig(relo.kind));
     }
     let offset = relo.offset as u64;

@@ -16,7 +16,7 @@ ghost use Rattle.report.specs.Pieces.{Wrote};
 ghost use Rattle.block.specs.Block.{endingNumber, whichShown, refusalShown, endingShown, outcomeLine, hexDigit, hex, tail};
 
 // Document 01's number of an ending.
-pub fn ending_number(ending: Ending) -> u32
+fn ending_number(ending: Ending) -> u32
     ensures { λ r. ⌜ r ≡ endingNumber ending ⌝ }
 {
     match ending {
@@ -118,7 +118,7 @@ fn put_hex_byte(out: &mut [u8], at: u64, byte: u8) -> u64
 }
 
 // Bytes in hexadecimal.
-pub fn put_hex(out: &mut [u8], at: u64, bytes: &[u8]) -> u64
+fn put_hex(out: &mut [u8], at: u64, bytes: &[u8]) -> u64
     ensures { λ r. ⌜ Wrote (now (out .entry)) at (hex (now (bytes .entry))) (now (out .exit)) r ⌝ }
 {
     let mut next = near(at);

@@ -1,12 +1,12 @@
 -- The laws of acceptance and of a read, and what is known of bytes that are accepted.
 -- Assumes nothing.
-use Prim.Native.Nat.{ℕ, zero, suc, _+_, _-_, _≤_, _<_}
+use Prim.Native.Nat.{ℕ, zero, suc, _+_, _≤_, _<_}
 use mathlib.Core.Path.{_≡_, refl, sym, ap, _∙_}
 use mathlib.Core.Bool.{Bool, true, false, cond}
 use mathlib.Core.List.{List}
 use native.Mathlib.Omega.{arith}
 use lib.ListN.{length}
-use lib.Dec.{leb}
+use lib.Dec.{leb, ltb}
 use borrow.Author.Tests.{lt-ltb, le-ltb, le-leb, lt-leb, leb-true}
 use Rattle.words.specs.Laws.{section-length}
 use Rattle.btf.specs.declared.Btf.{Btf}
@@ -14,13 +14,14 @@ use Rattle.btf.specs.declared.Head.{Head}
 use Rattle.btf.specs.declared.Head.the-variants.{Sections, Broken}
 use Rattle.btf.specs.declared.Scan.{Scan}
 use Rattle.btf.specs.declared.Scan.the-variants.{Count, Fault as Stop, Over as Many}
+use Rattle.btf.specs.declared.Whole.{Whole}
 use Rattle.btf.specs.declared.Whole.the-variants.{Accepted, Bad, Over}
 use Rattle.btf.specs.declared.Answer.{Answer}
 use Rattle.btf.specs.declared.Answer.the-variants.{Read, Bad as Refused, Over as TooBig, TooShort}
 use Rattle.btf.specs.Limits.{maxBytes, maxTypes}
 use Rattle.btf.specs.Sections.{headOf, typesIn, stringsIn, stringsFine}
 use Rattle.btf.specs.Accept.{scan, unfit, firstOr, thenFits, checked, ending, whole, inSections, accepted}
-use Rattle.btf.specs.Table.{laid, decode, tabled}
+use Rattle.btf.specs.Table.{laid, roomy, decode, tabled}
 use Rattle.btf.specs.HeaderLaws.{told-head}
 use Rattle.btf.specs.ScanLaws.{Walking, walking-first, walking-most, Lies, walking-lies}
 
@@ -105,6 +106,20 @@ told-accepted s b = go (leb (length s) maxBytes) refl
     go : (x : Bool) → leb (length s) maxBytes ≡ x → Accepted b ≡ cond x (inSections s (headOf s)) Over → Known s b
     go true e h = second (leb-true (length s) maxBytes e) (headOf s) refl h
     go false e h = let y : _≡_ {A = ℕ} 0 1 = cc in absurd (omega arith)
+
+-- what is read is accepted
+pub read-accepted : (s : List ℕ) (room : ℕ) (b : Btf) → Read b ≡ decode s room → Accepted b ≡ accepted s
+unfolding decode
+read-accepted s room b = go (accepted s)
+  where
+    fit : (c : Btf) (t : Bool) → Read b ≡ cond t (Read c) (TooShort (c .last + 1)) → Accepted b ≡ Accepted c
+    fit c true h = cc
+    fit c false h = let y : _≡_ {A = ℕ} 0 1 = cc in absurd (omega arith)
+
+    go : (w : Whole) → Read b ≡ roomy room w → Accepted b ≡ w
+    go (Accepted c) h = fit c (ltb (c .last) room) h
+    go (Bad i) h = let y : _≡_ {A = ℕ} 0 1 = cc in absurd (omega arith)
+    go Over h = let y : _≡_ {A = ℕ} 0 1 = cc in absurd (omega arith)
 
 pub types-length : {s : List ℕ} {b : Btf} → Known s b → length (typesIn s b) ≡ b .types .size
 types-length {s} {b} k = section-length s (b .types .start) (b .types .size) (k .types)

@@ -2,9 +2,8 @@
 // each rule of document 01, sections 3 and 4. A line has what was edited, the number put there, and the answer's number and
 // value.
 use btf::Answer;
-use btf::number_of;
 use btf::read;
-use btf::value_of;
+use numbers::reading_numbers;
 use put::put_u8;
 use put::put_u16;
 use put::put_u32;
@@ -115,20 +114,22 @@ fn base(b: &mut [u8]) {
 }
 
 fn line(label: &[u8], put: u32, a: Answer) {
+    let said = reading_numbers(a);
+    let number = said.number;
     io::write_all(1, label);
     io::write_all(1, b" ");
     io::print_decimal(1, put as u64);
     io::write_all(1, b" -> ");
-    io::print_decimal(1, number_of(a) as u64);
-    match a {
-        Answer::Read(b) => {
+    io::print_decimal(1, number as u64);
+    match number {
+        0 => {
             io::write_all(1, b", last ");
-            io::print_decimal(1, b.last as u64);
+            io::print_decimal(1, said.e);
         }
-        Answer::Over => {}
+        2 => {}
         _ => {
             io::write_all(1, b", ");
-            io::print_decimal(1, value_of(a) as u64);
+            io::print_decimal(1, said.a);
         }
     }
     io::write_all(1, b"\n");

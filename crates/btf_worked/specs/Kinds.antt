@@ -1,6 +1,6 @@
 -- Worked examples of sections 3 and 4, by computation: a BTF with one type of each kind, and edits of it.
 -- Assumes nothing.
-use Prim.Native.Nat.{ℕ, _+_, _/_, _%_}
+use Prim.Native.Nat.{ℕ, _/_, _%_}
 use mathlib.Core.Path.{_≡_, refl}
 use mathlib.Core.List.{List, [], _∷_, _++_}
 use lib.ListN.{getD, set}
@@ -13,9 +13,9 @@ use Rattle.btf.specs.Sections.{begins, headOf, stringsFine}
 use Rattle.pass.specs.Good.{encodingFine, good}
 use Rattle.btf.specs.Accept.{scan, allFit, fits, unfit, checked, accepted}
 use Rattle.btf.specs.Table.{offsets, laid, decode, tabled}
-use Rattle.btf.specs.Number.{number, returned, said}
 use Rattle.view.specs.Text.{cut, textAt}
 use Rattle.view.specs.View.{off, typ, docView}
+use Rattle.numbers.specs.Numbers.{said, readNumbers}
 
 -- numbers of 32 bits as bytes, low byte first
 unfoldable pub bytes4 : List ℕ → List ℕ
@@ -80,8 +80,8 @@ unfolding bytes4 sample numAt section isKind extraBytes entryBytes hasSize hasTy
 tables = refl
 
 -- one of 19 is an entry short, which is document 01's number 3
-short : said (decode sample 19) ≡ 3 ∷ 20 ∷ []
-unfolding bytes4 sample numAt section isKind extraBytes entryBytes hasSize hasType encodes entryOf extraAt entryAt entriesAt entryCount typeAt typeBytes begins headOf stringsFine encodingFine good scan allFit fits unfit checked accepted decode number returned
+short : readNumbers (decode sample 19) ≡ said 3 20 0 0 0 0
+unfolding bytes4 sample numAt section isKind extraBytes entryBytes hasSize hasType encodes entryOf extraAt entryAt entriesAt entryCount typeAt typeBytes begins headOf stringsFine encodingFine good scan allFit fits unfit checked accepted decode readNumbers
 short = refl
 
 -- the struct's second member is "b", of type 2, at bit 32

@@ -6,6 +6,7 @@ use member::Valued;
 use member::plain_value;
 use rules::Accessor;
 use rules::Compat;
+use rules::ENUM_VARIANT_EXISTS;
 use rules::Event;
 use rules::Record;
 use rules::Refusal;
@@ -27,8 +28,6 @@ ghost use Rattle.rules.specs.Matching.{worth, fieldMatch, fieldEvent};
 ghost use Rattle.rules.specs.Matching.{origin as nowhereYet};
 ghost use Rattle.rules.specs.declared.Search.the-variants.{Found};
 ghost use Rattle.candidate.specs.Events.{variantWorth, typeEvents};
-
-const ENUM_VARIANT_EXISTS: u32 = 10;
 
 // A value that must be there, of a type that matches at bit 0.
 fn worth_event(v: Valued) -> Event

@@ -12,6 +12,7 @@ use rules::Record;
 use rules::Refusal;
 use rules::Resize;
 use rules::Resolved;
+use rules::TYPE_ID_LOCAL;
 use rules::Write;
 use text::Parsed;
 use text::Parsing;
@@ -39,8 +40,6 @@ ghost use Rattle.rules.specs.Record as rule;
 ghost use Rattle.rules.specs.Call.{recordAt};
 ghost use Rattle.writing.specs.Replies.{writeOf};
 ghost use Rattle.compute.specs.Endless.{endlessAfter};
-
-const TYPE_ID_LOCAL: u32 = 6;
 
 // Record number k of a list; past its end all is 0.
 pub fn record_at(records: &[u8], k: usize) -> Record
@@ -76,7 +75,7 @@ fn unresolved_after(parts: Parsed) -> Accessed
 }
 
 // What a record accesses, from its type id on.
-pub fn record_access(bytes: &[u8], table: &[u32], btf: Btf, relo: Record) -> Accessed
+fn record_access(bytes: &[u8], table: &[u32], btf: Btf, relo: Record) -> Accessed
     ensures { λ r. ⌜ accessOf r ≡ accessed (tabView (now (bytes .entry)) (now (table .entry)) btf) relo ⌝ }
 {
     if btf.last < relo.typ {
@@ -113,7 +112,7 @@ fn last_step(access: Accessed, count: usize) -> Accessor
 }
 
 // The record's own, local, value.
-pub fn own_value(bytes: &[u8], table: &[u32], btf: Btf, kind: u32, access: Accessed) -> Valued
+fn own_value(bytes: &[u8], table: &[u32], btf: Btf, kind: u32, access: Accessed) -> Valued
     ensures { λ r. ⌜ replyOf r ≡ bind (accessOf access) (localValue (tabView (now (bytes .entry)) (now (table .entry)) btf .typ) kind) ⌝ }
 {
     let reach = access.reach;

@@ -3,12 +3,12 @@
 use alike::ints_agree;
 use alike::kinds_alike;
 use btf::Btf;
+use kinds::BTF_KIND_ARRAY;
+use kinds::BTF_KIND_FLOAT;
+use kinds::BTF_KIND_FWD;
+use kinds::BTF_KIND_INT;
+use kinds::BTF_KIND_PTR;
 use names::same_named;
-use rules::BTF_KIND_ARRAY;
-use rules::BTF_KIND_FLOAT;
-use rules::BTF_KIND_FWD;
-use rules::BTF_KIND_INT;
-use rules::BTF_KIND_PTR;
 use rules::Compat;
 use rules::MAX_RESOLVE_DEPTH;
 use rules::Resolved;

@@ -3,10 +3,10 @@
 //   target: struct a { struct { long w; int z[8]; } s; };
 // From the target's a: [0] is at bit 0, .s at bit 0, .z at bit 64, [2] at bit 128.
 use btf::Btf;
+use kinds::BTF_KIND_ARRAY;
+use kinds::BTF_KIND_STRUCT;
 use member::member_of;
 use rules::Accessor;
-use rules::BTF_KIND_ARRAY;
-use rules::BTF_KIND_STRUCT;
 use rules::MAX_LEVELS;
 use rules::MAX_SPEC_LEN;
 use rules::Refusal;

@@ -1,8 +1,11 @@
 // How a field is loaded: from which bytes, so many bits of them, and whether they have a sign. Any bytes, any table and any bit
 // offset get an answer.
 use btf::Btf;
+use kinds::BTF_KIND_INT;
+use kinds::BTF_KIND_PTR;
+use kinds::has_size;
 use rules::Load;
-use types::has_size;
+use types::POINTER_SIZE;
 use types::is_enum;
 use view::extra_of;
 use view::flag_of;
@@ -16,14 +19,8 @@ ghost use Rattle.rules.specs.Types.{ownSize};
 ghost use Rattle.rules.specs.Value.{bitfield, signedness, plainLoad};
 ghost use Rattle.load.specs.Replies.{loadOf, Aligned};
 
-const BTF_KIND_INT: u32 = 1;
-
-const BTF_KIND_PTR: u32 = 2;
-
 // The bit of an INT's encoding word that says signed.
 const INT_SIGNED: u32 = 16777216;
-
-const POINTER_SIZE: u32 = 8;
 
 // The most bytes that are tried for a bitfield, and how often: 1, 2, 4 and 8.
 const WIDEST: u64 = 8;

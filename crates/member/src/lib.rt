@@ -6,6 +6,10 @@ use load::Loaded;
 use load::bitfield_of;
 use load::plain_load;
 use load::signedness_of;
+use rules::FIELD_BYTE_OFFSET;
+use rules::FIELD_BYTE_SIZE;
+use rules::FIELD_LSHIFT;
+use rules::FIELD_SIGNED;
 use rules::Load;
 use rules::Refusal;
 use rules::Resolved;
@@ -24,14 +28,6 @@ ghost use Rattle.rules.specs.Refusal.{ok};
 ghost use Rattle.rules.specs.Fields.{bitfieldSize, entryAt};
 ghost use Rattle.rules.specs.Value.{plain, endFrom, shift, loadValue, memberValue};
 ghost use Rattle.member.specs.Replies.{replyOf, offsetOf, plainMember, bitfieldMember, namedValue};
-
-const FIELD_BYTE_OFFSET: u32 = 0;
-
-const FIELD_BYTE_SIZE: u32 = 1;
-
-const FIELD_SIGNED: u32 = 3;
-
-const FIELD_LSHIFT: u32 = 4;
 
 // The bits of a register.
 const REGISTER: u64 = 64;

@@ -1,12 +1,18 @@
 -- What the exported calls say back, as numbers (document 01, section 3): the answer's own, and five beside it.
-use Prim.Native.Nat.{ℕ, _%_, _^_}
+use Prim.Native.Nat.{ℕ, _+_, _%_, _^_}
 use mathlib.Core.List.{List, [], _∷_}
-use mathlib.Core.Path.{_≡_}
+use mathlib.Core.Path.{_≡_, refl}
+use mathlib.Core.Bool.{Bool, true, false, cond}
+use lib.Dec.{ltb}
 use lib.ListN.{length, getD, set}
 use lib.Seq.{sets}
 use Rattle.btf.specs.declared.Btf.{Btf}
 use Rattle.btf.specs.declared.Answer.{Answer}
 use Rattle.btf.specs.declared.Answer.the-variants.{Read, Bad, Over, TooShort}
+use Rattle.btf.specs.declared.Whole.{Whole}
+use Rattle.btf.specs.declared.Whole.the-variants.{Accepted, Bad as Faulty, Over as TooBig}
+use Rattle.btf.specs.Accept.{accepted}
+use Rattle.btf.specs.Table.{roomy, decode}
 use Rattle.view.specs.View.{View}
 use Rattle.view.specs.Places.{noEntry}
 use Rattle.numbers.specs.declared.Numbers.{Numbers}
@@ -25,6 +31,27 @@ readNumbers (Read b) = said 0 (b .types .start) (b .types .size) (b .strings .st
 readNumbers (Bad i) = said 1 i 0 0 0 0
 readNumbers Over = said 2 0 0 0 0 0
 readNumbers (TooShort n) = said 3 n 0 0 0 0
+
+-- What document 01 says of bytes that are, or are not, a BTF, over a table of `room` entries: 0 with what was read, or 3 with the
+-- entries needed; 1 with the id of the first fault; 2 over a limit
+unfoldable pub verdict : ℕ → Whole → Numbers
+verdict room (Accepted b) = cond (ltb (b .last) room) (readNumbers (Read b)) (said 3 (b .last + 1) 0 0 0 0)
+verdict room (Faulty i) = said 1 i 0 0 0 0
+verdict room TooBig = said 2 0 0 0 0 0
+
+-- A reading says just that
+pub reading-says : (s : List ℕ) (room : ℕ) → readNumbers (decode s room) ≡ verdict room (accepted s)
+unfolding decode readNumbers verdict
+reading-says s room = go (accepted s)
+  where
+    fit : (b : Btf) (t : Bool) → readNumbers (cond t (Read b) (TooShort (b .last + 1))) ≡ cond t (readNumbers (Read b)) (said 3 (b .last + 1) 0 0 0 0)
+    fit b true = refl
+    fit b false = refl
+
+    go : (w : Whole) → readNumbers (roomy room w) ≡ verdict room w
+    go (Accepted b) = fit b (ltb (b .last) room)
+    go (Faulty i) = refl
+    go TooBig = refl
 
 -- The BTF that the five numbers of a reading stand for; 0 for one that is missing
 unfoldable pub btfOf : List ℕ → Btf

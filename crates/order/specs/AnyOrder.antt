@@ -1,5 +1,5 @@
 -- Document 02, Q-13: the order of records does not matter where each is accepted on the starting instructions and no two touch
--- a common instruction. This file says it, and no more; it is proved in Proved.
+-- a common instruction. This file says it, and no more; it is proved in Two, Lists and Calls.
 use Prim.Native.Nat.{ℕ, suc, _+_, _*_}
 use mathlib.Core.Path.{_≡_}
 use mathlib.Core.Bool.{Bool, true, false, cond, _&&_, _||_}

@@ -1,18 +1,15 @@
 -- Two calls whose lists have the same records in another order: they say the same and leave the same bytes.
 use Prim.Native.Nat.{ℕ, suc, _+_}
 use mathlib.Core.Path.{_≡_, refl, sym, ap, _∙_}
-use mathlib.Core.Bool.{Bool, true, false, cond}
+use mathlib.Core.Bool.{true, false}
 use mathlib.Core.List.{List, [], _∷_, _++_}
 use native.Mathlib.Omega.{arith}
 use lib.ListN.{length, length-append}
-use lib.Dec.{ltb}
 use Rattle.btf.specs.declared.Btf.{Btf}
-use Rattle.btf.specs.declared.Whole.{Whole}
-use Rattle.btf.specs.declared.Whole.the-variants.{Accepted, Bad as Fault, Over as Many}
 use Rattle.btf.specs.declared.Answer.{Answer as Reading}
 use Rattle.btf.specs.declared.Answer.the-variants.{Read, Bad, Over, TooShort}
-use Rattle.btf.specs.Accept.{accepted}
-use Rattle.btf.specs.Table.{roomy, decode}
+use Rattle.btf.specs.Table.{decode}
+use Rattle.btf.specs.Laws.{read-accepted}
 use Rattle.view.specs.View.{View, docView}
 use Rattle.rules.specs.declared.Record.{Record}
 use Rattle.rules.specs.declared.Answer.{Answer}
@@ -82,17 +79,7 @@ read-same w xs (TooShort n) f g h = refl
 
 -- Bytes that were read are held.
 held : (s : List ℕ) (room : ℕ) (b : Btf) → Read b ≡ decode s room → btfIn s ≡ docView s b
-unfolding decode
-held s room b h = go (accepted s) refl h
-  where
-    pick : (a : Btf) → Accepted a ≡ accepted s → (t : Bool) → Read b ≡ cond t (Read a) (TooShort (a .last + 1)) → btfIn s ≡ docView s b
-    pick a e true g = let same : b ≡ a = cc in btf-in s b (ap Accepted same ∙ e)
-    pick a e false g = let z : _≡_ {A = ℕ} 0 1 = cc in absurd (omega arith)
-
-    go : (x : Whole) → x ≡ accepted s → Read b ≡ roomy room x → btfIn s ≡ docView s b
-    go (Accepted a) e g = pick a e (ltb (a .last) room) g
-    go (Fault i) e g = let z : _≡_ {A = ℕ} 0 1 = cc in absurd (omega arith)
-    go Many e g = let z : _≡_ {A = ℕ} 0 1 = cc in absurd (omega arith)
+held s room b h = btf-in s b (read-accepted s room b h)
 
 pub call-order : (l : List ℕ) (lroom : ℕ) (t : List ℕ) (troom : ℕ) (insns : List ℕ) (section : ℕ) (rs ss : List ℕ)
     → shaped insns section rs ≡ true → shaped insns section ss ≡ true

@@ -103,9 +103,6 @@ module _ (L T : View) (section : ℕ) (insns : List ℕ) (r : Record) (p : isAcc
   after : recordOf L T section insns r .insns ≡ bytesOf (patch insns i w)
   after = ap (λ (o : Outcome). o .insns) (patches L T section insns r p .is insns refl) ∙ left w (patch insns i w)
 
-  pub after-long : length (recordOf L T section insns r .insns) ≡ length insns
-  after-long = ap length after ∙ keeps insns i w .long
-
   applies : refusalOf (patch insns i w) ≡ none
   applies = applied w (patch insns i w) (sym (ap (λ (o : Outcome). isRefused (o .answer)) (patches L T section insns r p .is insns refl)) ∙ p)
 

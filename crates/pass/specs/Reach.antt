@@ -30,10 +30,11 @@ unfoldable pub topmost : List ℕ → ℕ → ℕ → ℕ → ℕ
 topmost t step at zero = 0
 topmost t step at (suc n) = larger (word t at) (topmost t step (at + step) n)
 
--- the largest of one number and of the words of four entries from the i-th on, the last one's where there are fewer
+-- the word of the i-th entry; past the last entry, of the last
 abbrev pub entryWord : List ℕ → ℕ → ℕ → ℕ → ℕ → ℕ
 entryWord t step from last i = word t (from + step * lesser i last)
 
+-- the largest of one number and of the words of four entries from the i-th on
 unfoldable pub fourOf : List ℕ → ℕ → ℕ → ℕ → ℕ → ℕ → ℕ
 fourOf t step from i last high =
     let w = entryWord t step from last in

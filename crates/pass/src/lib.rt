@@ -1,5 +1,6 @@
 // One type of a types section passed in one go: where the next begins, and how far its names and type ids reach. This is the
-// hottest code of reading: each word is one load, a kind is looked at once, and a list is read four entries a turn.
+// hottest code of reading: each word is one load, a kind is looked at once, and a list of names and types is read four entries a
+// turn.
 use kinds::BTF_KIND_ARRAY;
 use kinds::BTF_KIND_DECL_TAG;
 use kinds::BTF_KIND_ENUM;

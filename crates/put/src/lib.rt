@@ -58,7 +58,7 @@ pub fn signed32(x: u32) -> i32
 }
 
 // The pattern of a signed number, at 16, 32 and 64 bits.
-pub fn bits16(v: i16) -> u16
+fn bits16(v: i16) -> u16
     ensures { λ r. ⌜ r ≡ ofZ w16 v ⌝ }
 {
     if 0 <= v {
@@ -68,7 +68,7 @@ pub fn bits16(v: i16) -> u16
     }
 }
 
-pub fn bits32(v: i32) -> u32
+fn bits32(v: i32) -> u32
     ensures { λ r. ⌜ r ≡ ofZ w32 v ⌝ }
 {
     if 0 <= v {
@@ -78,7 +78,7 @@ pub fn bits32(v: i32) -> u32
     }
 }
 
-pub fn bits64(v: i64) -> u64
+fn bits64(v: i64) -> u64
     ensures { λ r. ⌜ r ≡ ofZ w64 v ⌝ }
 {
     if 0 <= v {
@@ -89,7 +89,7 @@ pub fn bits64(v: i64) -> u64
 }
 
 // An i32 widened to a 64-bit pattern.
-pub fn widened(v: i32) -> u64
+fn widened(v: i32) -> u64
     ensures { λ r. ⌜ r ≡ ofZ w64 v ⌝ }
 {
     bits64(v as i64)

@@ -52,7 +52,7 @@ pub fn put_decimal(out: &mut [u8], at: u64, n: u64) -> u64
 }
 
 // A line that shows a number.
-pub fn put_line(out: &mut [u8], at: u64, key: &[u8], n: u64) -> u64
+fn put_line(out: &mut [u8], at: u64, key: &[u8], n: u64) -> u64
     ensures { λ r. ⌜ Wrote (now (out .entry)) at (now (key .entry) ++ decimal n ++ ascii "\n") (now (out .exit)) r ⌝ }
 {
     let shown = put_piece(out, at, key);
@@ -83,7 +83,7 @@ pub fn refusal_number(refusal: Refusal) -> u32
 }
 
 // Document 01's number of an answer.
-pub fn answer_number(answer: Answer) -> u32
+fn answer_number(answer: Answer) -> u32
     ensures { λ r. ⌜ r ≡ numberOf answer ⌝ }
 {
     match answer {

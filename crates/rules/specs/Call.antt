@@ -40,11 +40,12 @@ recordsIn bytes = recordsFrom bytes 0 (length bytes / 16)
 
 -- The end of a run
 
--- How a call ends, in document 01's number and what it returns beside it; a BTF is named by 0 (local) or 1 (target)
+-- A BTF is named by 0 (local) or 1 (target).
 abbrev pub named : Which → ℕ
 named Local = 0
 named Target = 1
 
+-- How a call ends, in document 01's number and what it returns beside it
 unfoldable pub endingSaid : Ending → List ℕ
 endingSaid Done = 0 ∷ []
 endingSaid (BadBtf w i) = 1 ∷ named w ∷ i ∷ []

@@ -10,7 +10,7 @@ use lib.ListN.{length, getD, drop}
 use lib.Seq.{drop-cons}
 use lib.Dec.{eqb, leb}
 use Rattle.rules.specs.Kinds.{ARRAY, isModifier, sizedByRef}
-use Rattle.rules.specs.Limits.{maxResolveDepth, maxSpecLen}
+use Rattle.rules.specs.Limits.{maxSpecLen}
 use Rattle.kinds.specs.Types.{Ty}
 use Rattle.view.specs.View.{View}
 use Rattle.view.specs.Places.{noEntry}
@@ -18,19 +18,15 @@ use Rattle.rules.specs.declared.Resolved.the-variants.{At}
 use Rattle.rules.specs.declared.Why.the-variants.{KindWithoutSize}
 use Rattle.rules.specs.declared.Sized.the-variants.{Unsized}
 use Rattle.rules.specs.declared.Compat.{Compat}
-use Rattle.rules.specs.declared.Compat.the-variants.{Broken}
 use Rattle.rules.specs.declared.Search.{Search}
 use Rattle.rules.specs.declared.Search.the-variants.{Found, Failed}
-use Rattle.rules.specs.declared.Event.{Event}
-use Rattle.rules.specs.declared.Matches.{Matches}
 use Rattle.rules.specs.declared.Refusal.the-variants.{MaximumNesting, Unresolved}
 use Rattle.rules.specs.Fields.{entryAt, memberBits}
 use Rattle.rules.specs.Refusal.{ok, refused, bind}
-use Rattle.rules.specs.Types.{chain, resolve, resolved, ownSize, times, elements, isEmpty, sameText, sameFlavourless, andThen, both, meet, pairs, typesWithin, meetFields, fieldsWithin}
+use Rattle.rules.specs.Types.{chain, resolve, resolved, ownSize, times, elements, isEmpty, sameText, sameFlavourless, andThen, both, meet, pairs, meetFields, fieldsWithin}
 use Rattle.rules.specs.Access.{Walk, last, localStep, walked, localSteps}
 use Rattle.rules.specs.Value.{aligned, endFrom, bitfieldLoad}
-use Rattle.rules.specs.Matching.{variantNamed, orElse, grown, decided, Sought, atMember, level, membersOf, search}
-use Rattle.rules.specs.Record.{turn, over}
+use Rattle.rules.specs.Matching.{variantNamed, orElse, grown, decided, Sought, atMember, level}
 
 -- A definition's clause for suc, at the code's n and n - 1
 peel {ℓ} : {A : Type ℓ} (f g : ℕ → A) → ((k : ℕ) → f (suc k) ≡ g k) → (n : ℕ) → 0 < n → f n ≡ g (n - 1)
@@ -53,24 +49,10 @@ pub bitfield-turn : (n bits width s : ℕ) → 0 < n → bitfieldLoad n bits wid
 unfolding bitfieldLoad
 bitfield-turn n bits width s h = peel (λ j. bitfieldLoad j bits width s) _ (λ j. refl) n h
 
-pub types-turn : (L T : ℕ → Ty) (left own a b : ℕ) → 0 < left → typesWithin L T left own a b
-    ≡ cond (eqb own 0) Broken (both (meet (typesWithin L T (left - 1) (own - 1)) (typesWithin L T (left - 1) maxResolveDepth)) L T (resolve L a) (resolve T b))
-unfolding typesWithin
-types-turn L T left own a b h = peel (λ j. typesWithin L T j own a b) _ (λ j. refl) left h
-
 pub fields-turn : (L T : View) (own a b : ℕ) → 0 < own → fieldsWithin L T own a b
     ≡ both (meetFields (fieldsWithin L T (own - 1)) (L .text) (T .text)) (L .typ) (T .typ) (resolve (L .typ) a) (resolve (T .typ) b)
 unfolding fieldsWithin
 fields-turn L T own a b h = peel (λ j. fieldsWithin L T j a b) _ (λ j. refl) own h
-
-pub search-turn : (fits : ℕ → Compat) (T : View) (q : Sought) (levels i : ℕ) → 0 < levels
-    → search fits T q levels i ≡ membersOf (search fits T q (levels - 1)) fits T q (resolve (T .typ) i)
-unfolding search
-search-turn fits T q levels i h = peel (λ j. search fits T q j i) _ (λ j. refl) levels h
-
-pub over-turn : (f : ℕ → Event) (s : Matches) (i n : ℕ) → 0 < n → over f s i n ≡ over f (turn s i (f i)) (suc i) (n - 1)
-unfolding over
-over-turn f s i n h = peel (λ j. over f s i j) _ (λ j. refl) n h
 
 -- The parts of an access from the k-th on
 pub steps-turn : (typ : ℕ → Ty) (w : Walk) (ks : List ℕ) (k : ℕ) → k < length ks → localSteps typ w (drop k ks)

@@ -5,9 +5,10 @@ use mathlib.Core.List.{List, [], _∷_}
 use mathlib.Core.Option.{Option, none, some}
 use lib.ListN.{length, getD}
 use lib.Dec.{eqb, ltb}
-use Rattle.rules.specs.Kinds.{VOID, INT, PTR, ARRAY, FWD, FUNC-PROTO, FLOAT, isModifier, isComposite, isEnum, hasSize, sizedByRef, alike}
+use Rattle.rules.specs.Kinds.{VOID, INT, PTR, ARRAY, FWD, FUNC-PROTO, FLOAT, isModifier, isComposite, isEnum, sizedByRef, alike}
 use Rattle.rules.specs.Limits.{maxResolveDepth, maxSteps, sizeLimit}
 use Rattle.kinds.specs.declared.Entry.{Entry}
+use Rattle.kinds.specs.Kinds.{hasSize}
 use Rattle.kinds.specs.Types.{Ty}
 use Rattle.view.specs.View.{View}
 use Rattle.rules.specs.declared.Resolved.{Resolved}

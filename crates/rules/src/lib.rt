@@ -1,45 +1,29 @@
 // The words of document 01 as types: what the code answers is what the definitions beside this file speak of.
 
-// Kinds of types (the kernel's BTF document).
-pub const BTF_KIND_UNKN: u32 = 0;
+// The kinds of records (LLVM's relocation document).
+pub const FIELD_BYTE_OFFSET: u32 = 0;
 
-pub const BTF_KIND_INT: u32 = 1;
+pub const FIELD_BYTE_SIZE: u32 = 1;
 
-pub const BTF_KIND_PTR: u32 = 2;
+pub const FIELD_EXISTS: u32 = 2;
 
-pub const BTF_KIND_ARRAY: u32 = 3;
+pub const FIELD_SIGNED: u32 = 3;
 
-pub const BTF_KIND_STRUCT: u32 = 4;
+pub const FIELD_LSHIFT: u32 = 4;
 
-pub const BTF_KIND_UNION: u32 = 5;
+pub const FIELD_RSHIFT: u32 = 5;
 
-pub const BTF_KIND_ENUM: u32 = 6;
+pub const TYPE_ID_LOCAL: u32 = 6;
 
-pub const BTF_KIND_FWD: u32 = 7;
+pub const TYPE_ID_TARGET: u32 = 7;
 
-pub const BTF_KIND_TYPEDEF: u32 = 8;
+pub const TYPE_EXISTS: u32 = 8;
 
-pub const BTF_KIND_VOLATILE: u32 = 9;
+pub const TYPE_SIZE: u32 = 9;
 
-pub const BTF_KIND_CONST: u32 = 10;
+pub const ENUM_VARIANT_EXISTS: u32 = 10;
 
-pub const BTF_KIND_RESTRICT: u32 = 11;
-
-pub const BTF_KIND_FUNC: u32 = 12;
-
-pub const BTF_KIND_FUNC_PROTO: u32 = 13;
-
-pub const BTF_KIND_VAR: u32 = 14;
-
-pub const BTF_KIND_DATASEC: u32 = 15;
-
-pub const BTF_KIND_FLOAT: u32 = 16;
-
-pub const BTF_KIND_DECL_TAG: u32 = 17;
-
-pub const BTF_KIND_TYPE_TAG: u32 = 18;
-
-pub const BTF_KIND_ENUM64: u32 = 19;
+pub const ENUM_VARIANT_VALUE: u32 = 11;
 
 // How many types a loop over types looks at, as in the crate.
 pub const MAX_RESOLVE_DEPTH: u32 = 32;

@@ -7,7 +7,7 @@
 //       };
 //   };
 // `y` is no named member of task: the search goes down into the unnamed union, and there into the unnamed struct, where `y`
-// stands at bit 32. On the way back each level adds its member's bit offset and one part: bits 32, 32 + 0, 32 + 0 + 32,
+// stands at bit 32. On the way back each level adds its member's bit offset and one part: bits 32, 32 + 0, 32 + 0 + 64,
 // and three parts more than before. That `pid` comes first is no matter; had an earlier member of any of the three been
 // named `y`, it would have decided.
 use bits::Bits;

@@ -5,6 +5,8 @@ use bits::bits_sum;
 use bits::element_bits;
 use bits::local_first_bits;
 use btf::Btf;
+use kinds::BTF_KIND_ARRAY;
+use kinds::BTF_KIND_STRUCT;
 use kinds::Entry;
 use rules::Accessor;
 use rules::Refusal;
@@ -26,10 +28,6 @@ ghost use Rattle.rules.specs.Fields.{memberBits};
 ghost use Rattle.rules.specs.Refusal.{bind};
 ghost use Rattle.rules.specs.Access.{localOpen, localMember, elementBits, localElement, localStep, firstBits};
 ghost use Rattle.step.specs.Replies.{stepOf, placeOf, stepBy, nextStep};
-
-const BTF_KIND_ARRAY: u32 = 3;
-
-const BTF_KIND_STRUCT: u32 = 4;
 
 // A step, or why there is none.
 pub enum Stepped {

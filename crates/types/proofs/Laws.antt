@@ -8,7 +8,8 @@ use native.Mathlib.Omega.{arith}
 use lib.Dec.{T, eqb}
 use borrow.Author.Tests.{eq-eqb, ne-eqb}
 use Rattle.kinds.specs.Types.{Ty}
-use Rattle.rules.specs.Kinds.{ARRAY, isModifier, hasSize, sizedByRef}
+use Rattle.kinds.specs.Kinds.{hasSize}
+use Rattle.rules.specs.Kinds.{ARRAY, isModifier, sizedByRef}
 use Rattle.rules.specs.declared.Resolved.the-variants.{At, Endless}
 use Rattle.rules.specs.declared.Why.the-variants.{ChainTooLong, KindWithoutSize}
 use Rattle.rules.specs.declared.Sized.the-variants.{Unsized}

@@ -1,21 +1,19 @@
 // Questions about one type, by id: where its chain of modifiers ends and how many bytes it has. Any bytes, any table get an
 // answer.
 use btf::Btf;
-use rules::BTF_KIND_ARRAY;
-use rules::BTF_KIND_DATASEC;
-use rules::BTF_KIND_DECL_TAG;
-use rules::BTF_KIND_ENUM;
-use rules::BTF_KIND_ENUM64;
-use rules::BTF_KIND_FLOAT;
-use rules::BTF_KIND_FUNC_PROTO;
-use rules::BTF_KIND_INT;
-use rules::BTF_KIND_PTR;
-use rules::BTF_KIND_RESTRICT;
-use rules::BTF_KIND_STRUCT;
-use rules::BTF_KIND_TYPE_TAG;
-use rules::BTF_KIND_TYPEDEF;
-use rules::BTF_KIND_UNION;
-use rules::BTF_KIND_VAR;
+use kinds::BTF_KIND_ARRAY;
+use kinds::BTF_KIND_DECL_TAG;
+use kinds::BTF_KIND_ENUM;
+use kinds::BTF_KIND_ENUM64;
+use kinds::BTF_KIND_FUNC_PROTO;
+use kinds::BTF_KIND_PTR;
+use kinds::BTF_KIND_RESTRICT;
+use kinds::BTF_KIND_STRUCT;
+use kinds::BTF_KIND_TYPE_TAG;
+use kinds::BTF_KIND_TYPEDEF;
+use kinds::BTF_KIND_UNION;
+use kinds::BTF_KIND_VAR;
+use kinds::has_size;
 use rules::MAX_RESOLVE_DEPTH;
 use rules::Resolved;
 use rules::Sized;
@@ -28,10 +26,10 @@ ghost use mathlib.Core.Path.{_≡_};
 ghost use mathlib.Core.Bool.{cond, _||_};
 ghost use lib.Dec.{eqb};
 ghost use Rattle.view.specs.View.{tabView};
-ghost use Rattle.rules.specs.Kinds.{ARRAY, isModifier, isComposite, isEnum, hasSize, sizedByRef};
+ghost use Rattle.rules.specs.Kinds.{ARRAY, isModifier, isComposite, isEnum, sizedByRef};
 ghost use Rattle.rules.specs.Types.{resolve, product, sizeOf};
 
-const POINTER_SIZE: u32 = 8;
+pub const POINTER_SIZE: u32 = 8;
 
 // The first size that is too big.
 const SIZE_LIMIT: u64 = 4294967296;
@@ -53,15 +51,6 @@ pub fn is_enum(kind: u32) -> bool
     ensures { λ r. ⌜ r ≡ isEnum kind ⌝ }
 {
     kind == BTF_KIND_ENUM || kind == BTF_KIND_ENUM64
-}
-
-// Whether a kind's third word is its size.
-pub fn has_size(kind: u32) -> bool
-    ensures { λ r. ⌜ r ≡ hasSize kind ⌝ }
-{
-    kind == BTF_KIND_INT
-        || (is_composite(kind)
-            || (is_enum(kind) || (kind == BTF_KIND_DATASEC || kind == BTF_KIND_FLOAT)))
 }
 
 // Whether a kind's size comes from the type that it refers to.

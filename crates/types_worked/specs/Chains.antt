@@ -1,6 +1,7 @@
 -- Chains and sizes, worked (document 01, sections 2 and 5).
 use mathlib.Core.Path.{_≡_, refl}
 use mathlib.Core.List.{[], _∷_}
+use Rattle.kinds.specs.Kinds.{hasSize}
 use Rattle.rules.specs.declared.Resolved.the-variants.{At, Endless}
 use Rattle.rules.specs.declared.Why.the-variants.{ChainTooLong, KindWithoutSize, ProductTooBig}
 use Rattle.rules.specs.declared.Sized.the-variants.{Bytes, Unsized}
@@ -26,27 +27,27 @@ no-modifiers = (refl, refl, refl)
 
 -- The size behind 31 typedefs, and behind 32, where the id not looked at any more is named
 pub size-behind : (sizeOf (linked (refers 8) 31 ints) 1 ≡ Bytes 4) × (sizeOf (linked (refers 8) 32 ints) 1 ≡ Unsized ChainTooLong 33)
-unfolding sizeOf elements
+unfolding sizeOf elements hasSize
 size-behind = (refl, refl)
 
 -- `int a[2][3]` has 12 bytes and `int a[0][5]` has 20: the innermost length alone counts.
 pub nested-arrays : (sizeOf (types (array 2 2 ∷ array 3 3 ∷ int ∷ [])) 1 ≡ Bytes 12) × (sizeOf (types (array 0 2 ∷ array 5 3 ∷ int ∷ [])) 1 ≡ Bytes 20)
-unfolding sizeOf elements
+unfolding sizeOf elements hasSize
 nested-arrays = (refl, refl)
 
 -- A pointer, and what has the size of another: a function its return type's, VAR 14 and DECL_TAG 17 their type's
 pub borrowed-sizes : (sizeOf (types (refers 2 0 ∷ [])) 1 ≡ Bytes 8) × (sizeOf (types (function [] 2 ∷ int ∷ [])) 1 ≡ Bytes 4)
     × (sizeOf (types (refers 14 2 ∷ int ∷ [])) 1 ≡ Bytes 4) × (sizeOf (types (refers 17 2 ∷ int ∷ [])) 1 ≡ Bytes 4)
-unfolding sizeOf elements
+unfolding sizeOf elements hasSize
 borrowed-sizes = (refl, refl, refl, refl)
 
 -- Void, FWD 7 and FUNC 12 have none.
 pub no-sizes : (sizeOf (types []) 0 ≡ Unsized KindWithoutSize 0) × (sizeOf (types (refers 7 0 ∷ [])) 1 ≡ Unsized KindWithoutSize 1)
     × (sizeOf (types (refers 12 0 ∷ [])) 1 ≡ Unsized KindWithoutSize 1)
-unfolding sizeOf elements
+unfolding sizeOf elements hasSize
 no-sizes = (refl, refl, refl)
 
 -- 2^32 - 4 bytes pass, 2^32 do not; the element is named.
 pub greatest : (sizeOf (types (array 1073741823 2 ∷ int ∷ [])) 1 ≡ Bytes 4294967292) × (sizeOf (types (array 1073741824 2 ∷ int ∷ [])) 1 ≡ Unsized ProductTooBig 2)
-unfolding sizeOf elements
+unfolding sizeOf elements hasSize
 greatest = (refl, refl)

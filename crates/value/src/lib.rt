@@ -1,6 +1,7 @@
 // What a match is worth, by the record's kind: a field's value, a type's, a variant's. All are functions of the view alone:
 // no candidate is looked at, and no instruction. Any bytes, any table, any kind and any bit offset get an answer.
 use btf::Btf;
+use kinds::BTF_KIND_ENUM;
 use kinds::Entry;
 use member::Valued;
 use member::named_value;
@@ -8,8 +9,13 @@ use member::offset_value;
 use member::plainly;
 use put::sign_extend;
 use rules::Accessor;
+use rules::FIELD_BYTE_OFFSET;
+use rules::FIELD_BYTE_SIZE;
+use rules::FIELD_EXISTS;
 use rules::Refusal;
 use rules::Sized;
+use rules::TYPE_EXISTS;
+use rules::TYPE_ID_TARGET;
 use types::type_size;
 use view::flag_of;
 use view::kind_of;
@@ -20,18 +26,6 @@ ghost use Rattle.rules.specs.Fields.{rawValue};
 ghost use Rattle.rules.specs.Types.{sizeOf, sized};
 ghost use Rattle.rules.specs.Value.{plain, elementValue, fieldValue, variantValue, typeValue};
 ghost use Rattle.member.specs.Replies.{replyOf};
-
-const BTF_KIND_ENUM: u32 = 6;
-
-const FIELD_BYTE_OFFSET: u32 = 0;
-
-const FIELD_BYTE_SIZE: u32 = 1;
-
-const FIELD_EXISTS: u32 = 2;
-
-const TYPE_ID_TARGET: u32 = 7;
-
-const TYPE_EXISTS: u32 = 8;
 
 // A type's size as a value.
 fn size_value(bytes: &[u8], table: &[u32], btf: Btf, id: u32) -> Valued

@@ -4,6 +4,7 @@ use mathlib.Core.Path.{_≡_, refl}
 use mathlib.Core.Bool.{true}
 use Prim.Native.Nat.{ℕ}
 use mathlib.Core.List.{List, [], _∷_, _++_}
+use Rattle.kinds.specs.Kinds.{hasSize}
 use Rattle.view.specs.Text.{textAt, cut}
 use Rattle.view.specs.View.{View}
 use Rattle.rules.specs.declared.Resolved.the-variants.{At}
@@ -36,7 +37,7 @@ chains = refl
 
 -- It has 24 bytes; int[2][4] has 16, as the crate counts; void has no size.
 pub sizes : (sizeOf (A .typ) 7 ≡ Bytes 24) × (sizeOf (A .typ) 6 ≡ Bytes 16) × (sizeOf (A .typ) 0 ≡ Unsized KindWithoutSize 0)
-unfolding sizeOf elements
+unfolding sizeOf elements hasSize
 sizes = (refl, refl, refl)
 
 -- a___v2 without its flavour is a; a__v has none.
@@ -47,7 +48,7 @@ flavours = (refl, refl)
 -- "0:1:1:0:2" on a: [0], .s, .z, [2], at bit 32 + 32 + 0 + 64
 pub walk : localWalk (A .typ) 2 (0 ∷ 1 ∷ 1 ∷ 0 ∷ 2 ∷ [])
     ≡ ok (record { typ = 1; path = element 2 0 ∷ member 2 1 ∷ member 4 0 ∷ element 1 2 ∷ []; bits = 128 })
-unfolding localWalk firstBits localSteps localStep localMember localElement elementBits localOpen localFirstBits lastOf resolve chain sizeOf elements
+unfolding localWalk firstBits localSteps localStep localMember localElement elementBits localOpen localFirstBits lastOf resolve chain sizeOf elements hasSize
 walk = refl
 
 -- struct a { int x; int y; };
@@ -68,7 +69,7 @@ candidate = refl
 
 -- y of a, in a___v2: at bit 32 of the unnamed struct at bit 32; three parts
 pub match : fieldMatch B C (element 2 0 ∷ member 2 1 ∷ []) 4 ≡ Found (record { typ = 1; last = member 3 1; bits = 64; parts = 3 })
-unfolding fieldMatch targetSteps targetStep targetMember search level atElement elementBits resolve chain sizeOf elements sameText fieldsCompatible fieldsWithin meetFields textAt cut
+unfolding fieldMatch targetSteps targetStep targetMember search level atElement elementBits resolve chain sizeOf elements sameText fieldsCompatible fieldsWithin meetFields textAt cut hasSize
 match = refl
 
 -- A struct is compatible with any struct, and not with a pointer.

@@ -7,6 +7,7 @@
 use Prim.Native.Nat.{ℕ}
 use mathlib.Core.Path.{_≡_, refl}
 use mathlib.Core.List.{List, [], _∷_, _++_}
+use Rattle.kinds.specs.Kinds.{hasSize}
 use Rattle.words.specs.Put.{putAt}
 use Rattle.view.specs.Text.{textAt, cut}
 use Rattle.view.specs.View.{View}
@@ -53,7 +54,7 @@ records = rec 16 2 7 fieldByteOffset ∷ rec 32 3 11 typeSize ∷ []
 
 -- What is answered, and the instructions afterwards
 pub ran : listOf L T 0 (insns 0) records ≡ record { answers = Applied 16 ∷ Refused NoMatch ∷ []; insns = insns 16 }
-unfolding textAt cut putAt resolve chain sizeOf elements flavourless sameText fieldsCompatible fieldsWithin meetFields parse numbers split part decimal digits lastOf localFirstBits localMember localStep localSteps firstBits localWalk fieldAccess typeAccess localAccess localValue fieldValue memberValue plainValue loadValue isCandidate event fieldMatch targetSteps targetStep targetMember search level atElement elementBits patch patchFront patchClass patchMemory resize withOff code turn over eventAt matches absent conclude resizing compute accessed relocated apply recordOf listOf
+unfolding textAt cut putAt resolve chain sizeOf elements flavourless sameText fieldsCompatible fieldsWithin meetFields parse numbers split part decimal digits lastOf localFirstBits localMember localStep localSteps firstBits localWalk fieldAccess typeAccess localAccess localValue fieldValue memberValue plainValue loadValue isCandidate event fieldMatch targetSteps targetStep targetMember search level atElement elementBits patch patchFront patchClass patchMemory resize withOff code turn over eventAt matches absent conclude resizing compute accessed relocated apply recordOf listOf hasSize
 ran = refl
 
 -- The report, and how many records were applied before the refusal

@@ -3,6 +3,7 @@
 use Prim.Native.Nat.{ℕ}
 use mathlib.Core.Path.{_≡_, refl}
 use mathlib.Core.List.{List, [], _∷_}
+use Rattle.kinds.specs.Kinds.{hasSize}
 use Rattle.kinds.specs.declared.Entry.{Entry}
 use Rattle.kinds.specs.Types.{Ty}
 use Rattle.rules.specs.declared.Refusal.the-variants.{BadAccess, BadInstruction}
@@ -76,7 +77,7 @@ pub record Starred : Type 0 where
       ≡ done (0x18 ∷ 1 ∷ 0 ∷ 0 ∷ 0xff ∷ 0xff ∷ 0xff ∷ 0xff ∷ 0 ∷ 0 ∷ 0 ∷ 0 ∷ 0 ∷ 0 ∷ 0 ∷ 0 ∷ [])
 
 pub starred : Starred
-unfolding parse numbers split part decimal digits memberValue bitfieldValue bitfieldLoad loadValue variantValue extended resizing resizable patch patchFront patchClass patchAlu patchMemory resize sizeBits withSize patchWide alsoNext withImm withOff withCode code sourceRegister putAt
+unfolding parse numbers split part decimal digits memberValue bitfieldValue bitfieldLoad loadValue variantValue extended resizing resizable patch patchFront patchClass patchAlu patchMemory resize sizeBits withSize patchWide alsoNext withImm withOff withCode code sourceRegister putAt hasSize
 starred = record {
   two-parts = refl;
   plus = refl;

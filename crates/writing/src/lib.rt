@@ -1,11 +1,18 @@
 // What is written, once the matches and the local value are known: the target's value, and the change of size.
 use btf::Btf;
+use kinds::BTF_KIND_INT;
+use kinds::BTF_KIND_PTR;
 use member::Valued;
 use member::plain_value;
 use rules::Answer;
+use rules::ENUM_VARIANT_EXISTS;
+use rules::FIELD_EXISTS;
 use rules::Matches;
 use rules::Refusal;
 use rules::Resize;
+use rules::TYPE_EXISTS;
+use rules::TYPE_ID_TARGET;
+use rules::TYPE_SIZE;
 use rules::Typing;
 use rules::Value;
 use rules::Worth;
@@ -19,10 +26,6 @@ ghost use Rattle.rules.specs.Fields.{intSigned};
 ghost use Rattle.rules.specs.Record.{resizable, resizing, writing, absent, conclude, computed, shown};
 ghost use Rattle.member.specs.Replies.{replyOf};
 ghost use Rattle.writing.specs.Replies.{worthOf, writeOf};
-
-const BTF_KIND_INT: u32 = 1;
-
-const BTF_KIND_PTR: u32 = 2;
 
 // The target's value, or why the record is refused.
 pub enum Concluded {
@@ -124,16 +127,6 @@ fn write_for(
         }
     }
 }
-
-const FIELD_EXISTS: u32 = 2;
-
-const TYPE_ID_TARGET: u32 = 7;
-
-const TYPE_EXISTS: u32 = 8;
-
-const TYPE_SIZE: u32 = 9;
-
-const ENUM_VARIANT_EXISTS: u32 = 10;
 
 // Kinds that ask whether something exists.
 fn asks_existence(kind: u32) -> bool
