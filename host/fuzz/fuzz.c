@@ -10,7 +10,8 @@
  *    4   the same three bytes for the target BTF
  *    7   entries of `said`, modulo 7
  *    8   bytes of `out`, in 2 bytes
- *   10   zeros behind the bytes of local BTF, target BTF, instructions, records: a number up to 127, else a power of two
+ *   10   zeros behind the bytes of local BTF, target BTF, instructions, records: a number up to 127, else a power of two; where
+ *        `how` has REPEATED, so many times the BTF's types come over, and no zeros
  *   14   bytes of local BTF, target BTF, instructions, records, local table, local numbers, target table, target numbers: in 2
  *        bytes each; they are taken in this order from what follows, as far as it goes
  *   30   the section offset, in 8 bytes; its halves are the id and the k of type and entry
@@ -28,6 +29,7 @@
 
 #define HEADER 38
 #define PARTS 8
+#define BTF_HEADER 24
 
 /* Bits of `how`. */
 enum {
@@ -35,6 +37,7 @@ enum {
 	GIVEN_NUMBERS = 2, /* the numbers are those given */
 	ANY_LAST = 4,      /* so is the last id; else it is small, since a record looks at each id */
 	FROM_END = 8,      /* a table's words count back from the end of the bytes */
+	REPEATED = 16,     /* the BTF's types come many times over, each time with the ids of the first */
 };
 #define FEW_IDS 1024
 
@@ -187,6 +190,42 @@ static void alter_numbers(struct btf *b, uint8_t how, uint8_t lent, struct bytes
 	b->own = b->own && !(how & GIVEN_NUMBERS) && given == 0 && b->numbers >= 5;
 }
 
+static void put_number(uint8_t *at, size_t number)
+{
+	for (int i = 0; i < 4; i++)
+		at[i] = (uint8_t)(number >> 8 * i);
+}
+
+/* One BTF that a few bytes can tell and that is long all the same: header, the types so many times, the strings. Left as it is
+ * where its sections do not lie inside the bytes. */
+static void repeat_types(struct btf *b, size_t times)
+{
+	const uint8_t *at = b->bytes.at;
+	size_t given = b->bytes.given, head, types, size, strings, length, end;
+
+	if (given < BTF_HEADER || times == 0)
+		return;
+	head = number_at(at + 4, 4);
+	types = head + number_at(at + 8, 4);
+	size = number_at(at + 12, 4);
+	strings = head + number_at(at + 16, 4);
+	length = number_at(at + 20, 4);
+	if (head < BTF_HEADER || size == 0 || types + size > given || strings + length > given)
+		return;
+	times = least(times, MAX_BYTES / size + 1); /* over the limit once is enough */
+	end = head + times * size;
+	memcpy(b->whole, at, head);
+	put_number(b->whole + 8, 0);
+	put_number(b->whole + 12, times * size);
+	put_number(b->whole + 16, times * size);
+	for (size_t i = 0; i < times; i++)
+		memcpy(b->whole + head + i * size, at + types, size);
+	memcpy(b->whole + end, at + strings, length);
+	b->bytes = (struct bytes){ .at = b->whole, .given = end + length, .len = end + length };
+	b->times = times;
+	b->once = size;
+}
+
 static size_t zeros(uint8_t more)
 {
 	return more < 128 ? more : (size_t)1 << more % 24;
@@ -202,6 +241,14 @@ static struct bytes take(struct bytes *rest, size_t asked, size_t more, size_t r
 	return taken;
 }
 
+/* The zeros behind a part. */
+static size_t behind(const uint8_t *header, size_t part)
+{
+	if (part >= 4 || (part < 2 && header[1 + 3 * part] & REPEATED))
+		return 0;
+	return zeros(header[10 + part]);
+}
+
 /* The input's parts in their order, then tables and numbers. */
 static void split(struct input *in, const uint8_t *header, struct bytes rest)
 {
@@ -211,11 +258,14 @@ static void split(struct input *in, const uint8_t *header, struct bytes rest)
 	struct bytes parts[PARTS];
 
 	for (size_t i = 0; i < PARTS; i++)
-		parts[i] = take(&rest, number_at(header + 14 + 2 * i, 2), i < 4 ? zeros(header[10 + i]) : 0, rooms[i]);
+		parts[i] = take(&rest, number_at(header + 14 + 2 * i, 2), behind(header, i), rooms[i]);
 	for (size_t i = 0; i < 2; i++) {
 		const uint8_t *how = header + 1 + 3 * i;
 
 		btfs[i]->bytes = parts[i];
+		btfs[i]->times = 1;
+		if (how[0] & REPEATED)
+			repeat_types(btfs[i], zeros(header[10 + i]));
 		read_own(btfs[i]);
 		alter_table(btfs[i], how[0], (int8_t)how[1], parts[4 + 2 * i]);
 		alter_numbers(btfs[i], how[0], how[2], parts[5 + 2 * i]);

@@ -38,6 +38,8 @@ struct bytes {
 struct btf {
 	int memory; /* LOCAL or TARGET */
 	struct bytes bytes;
+	uint8_t whole[BTF_ROOM]; /* the bytes, where the types come many times over */
+	size_t times, once;      /* so many times, of so many bytes each */
 	uint32_t table[TABLE_ROOM];
 	size_t entries;
 	uint64_t read[SAID];

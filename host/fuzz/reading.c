@@ -36,11 +36,27 @@ void read_own(struct btf *b)
 	b->own = number == 0;
 }
 
-static void check_accepted(struct bytes b, const uint32_t *before, const uint32_t *after, size_t entries, const uint64_t *said)
+/* Where the types come many times over, each time's entries are those of the first, further on; unless a type lies across the
+ * end of the first time. */
+static void check_times(const struct btf *b, const uint32_t *table, uint64_t types, uint64_t last)
+{
+	uint64_t first = 0, end = types + b->once;
+
+	while (first < last && table[first + 1] < end)
+		first++;
+	if (first == last || table[first + 1] != end)
+		return;
+	MUST(last == b->times * first);
+	for (size_t i = first + 1; i <= last; i++)
+		MUST(table[i] == table[i - first] + b->once);
+}
+
+static void check_accepted(const struct btf *b, const uint32_t *before, const uint32_t *after, size_t entries,
+			   const uint64_t *said)
 {
 	uint64_t types = said[0], end = said[0] + said[1], last = said[4];
 
-	MUST(end <= b.len && said[2] + said[3] <= b.len);
+	MUST(end <= b->bytes.len && said[2] + said[3] <= b->bytes.len);
 	MUST(last <= MAX_TYPES && last < entries);
 	MUST(after[0] == 0);
 	for (size_t i = 1; i <= last; i++) {
@@ -49,13 +65,15 @@ static void check_accepted(struct bytes b, const uint32_t *before, const uint32_
 	}
 	MUST(last == 0 || after[1] == types);
 	MUST(memcmp(after + last + 1, before + last + 1, 4 * (entries - last - 1)) == 0);
+	if (b->times > 1)
+		check_times(b, after, types, last);
 }
 
-static void check_read(struct bytes b, const uint32_t *before, const uint32_t *after, size_t entries, uint32_t number,
+static void check_read(const struct btf *b, const uint32_t *before, const uint32_t *after, size_t entries, uint32_t number,
 		       const uint64_t *said)
 {
 	MUST(number <= 3);
-	MUST(number == 2 || b.len <= MAX_BYTES);
+	MUST(number == 2 || b->bytes.len <= MAX_BYTES);
 	MUST(said[5] == UNTOUCHED_NUMBER);
 	if (number == 0) {
 		check_accepted(b, before, after, entries, said);
@@ -80,7 +98,7 @@ void try_read(const struct input *in)
 	memset(said, UNTOUCHED, sizeof said);
 	memset(full, UNTOUCHED, sizeof full);
 	number = read_once(b, AT_BEGINNING, first, entries, full, SAID);
-	check_read(b->bytes, before, first, entries, number, full);
+	check_read(b, before, first, entries, number, full);
 	MUST(read_once(b, AT_END, second, entries, said, in->said) == number);
 	MUST(memcmp(first, second, 4 * entries) == 0);
 	MUST(memcmp(said, full, 8 * in->said) == 0);
