@@ -4,7 +4,7 @@
 //! uphold is that a pointer and a length describe memory that may be read (and, for `*mut`, written): here they come from
 //! Rust slices, always.
 
-/// How many numbers a call may say back: applied records, two values, the report's length.
+/// How many numbers a call says back at most, as a reading does: where types and strings begin, their lengths, the last id.
 pub(crate) const SAID: usize = 5;
 
 extern "C" {
@@ -89,7 +89,7 @@ pub(crate) struct Read<'a> {
     pub numbers: &'a [u64; SAID],
 }
 
-/// What a call said: document 01's number and the numbers beside it.
+/// What a call said: its number and the numbers beside it.
 pub(crate) struct Said {
     pub number: u32,
     pub numbers: [u64; SAID],

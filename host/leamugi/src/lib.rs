@@ -3,12 +3,12 @@
 //! Read a target once, relocate many functions against it:
 //!
 //! ```
-//! use leamugi::Btf;
+//! use leamugi::{Btf, Which};
 //!
 //! # fn main() -> Result<(), Box<dyn std::error::Error>> {
 //! # let root = concat!(env!("CARGO_MANIFEST_DIR"), "/../../demo/");
-//! let local = Btf::read(std::fs::read(format!("{root}local.btf"))?)?;
-//! let target = Btf::read(std::fs::read(format!("{root}target.btf"))?)?;
+//! let local = Btf::read(std::fs::read(format!("{root}local.btf"))?).map_err(|why| why.of(Which::Local))?;
+//! let target = Btf::read(std::fs::read(format!("{root}target.btf"))?).map_err(|why| why.of(Which::Target))?;
 //! let mut insns = std::fs::read(format!("{root}insns.bin"))?;
 //! let records = std::fs::read(format!("{root}records.bin"))?;
 //! let applied = leamugi::relocate(&local, &target, &mut insns, 0, &records)?;
@@ -22,14 +22,21 @@
 //! ```
 //! let refused = leamugi::Btf::read(vec![0; 24]).unwrap_err();
 //! assert_eq!(refused.number(), 1);
-//! assert_eq!(refused.to_string(), "bad BTF: its header or its strings are not as the format says");
+//! assert_eq!(refused.to_string(), "bad BTF: its magic number is 0x0000 and not 0xeb9f");
 //! ```
+//!
+//! Every call ends, but the time that one takes has no small bound: a search goes through unnamed structs and unions within one
+//! another, up to 32 levels, and the work can double with each. A loader that takes targets from strangers bounds the time itself.
+//!
+//! The rules, the numbers of refusals and what a refusal leaves are those of docs/SCOPE.md in the repository.
 #![deny(missing_docs)]
 
+mod fault;
 mod ffi;
 mod refusal;
 
-pub use refusal::{BtfRefusal, Refused, Why};
+pub use fault::Fault;
+pub use refusal::{BtfRefusal, Refused, Which, Why};
 
 /// A BTF that was read and accepted: its bytes and the table of where its types begin.
 #[derive(Clone, Debug)]
@@ -44,11 +51,15 @@ pub struct Btf {
 pub struct Type<'a> {
     /// The kind's number in the kernel's BTF document, 0 for void.
     pub kind: u32,
+    /// The kind flag: a FWD is of a union; the members of a struct or union have a bitfield's size in their offset word; an enum's
+    /// values are signed.
+    pub flag: bool,
     /// The name's bytes, empty where there is none.
     pub name: &'a [u8],
     /// The size in bytes of a kind that has one, else 0.
     pub size: u64,
-    /// The type referred to: a pointee, a modified type, an array's element; else 0.
+    /// The type referred to: a pointee, a modified type, an array's element, a function's prototype, what a prototype returns, a
+    /// variable's or a tag's type; else 0.
     pub referred: u32,
     /// How many members, variants, parameters or variables there are.
     pub entries: u64,
@@ -61,9 +72,10 @@ pub struct Entry<'a> {
     pub name: &'a [u8],
     /// Its type's id, 0 where it has none.
     pub typ: u32,
-    /// A member's offset word, or the low half of a variant's value.
+    /// A member's offset word (in bits; where the struct's kind flag is set, in its lower 24 bits, below a bitfield's size), the low
+    /// half of a variant's value, or a section variable's offset.
     pub low: u32,
-    /// The high half of an ENUM64's variant's value.
+    /// The high half of an ENUM64's variant's value, or a section variable's size.
     pub high: u32,
 }
 
@@ -76,7 +88,7 @@ impl Btf {
     ///
     /// # Errors
     ///
-    /// Bytes that document 01's section 4 refuses, or that are over a limit.
+    /// Bytes that are no BTF by section 4 of docs/SCOPE.md, or that are over a limit of section 2.
     pub fn read(bytes: Vec<u8>) -> Result<Btf, BtfRefusal> {
         // A type takes at least 12 bytes, so the table is never too short.
         let mut table = vec![0; bytes.len() / 12 + 1];
@@ -90,8 +102,12 @@ impl Btf {
                 }
                 Ok(Btf { bytes, table, numbers: said.numbers })
             }
-            2 => Err(BtfRefusal::OverLimit),
-            _ => Err(BtfRefusal::Bad { id: said.numbers[0] as u32 }),
+            2 => Err(BtfRefusal::OverLimit { bytes: bytes.len() }),
+            _ => {
+                let id = said.numbers[0] as u32;
+                let fault::Found { at, name, fault } = fault::find(&bytes, id);
+                Err(BtfRefusal::Bad { id, name, at, fault })
+            }
         }
     }
 
@@ -119,7 +135,12 @@ impl Btf {
     pub fn type_at(&self, id: u32) -> Type<'_> {
         let said = ffi::type_at(&self.lent(), id);
         let [name, length, size, referred, entries] = said.numbers;
-        Type { kind: said.number, name: self.named(name, length), size, referred: referred as u32, entries }
+        Type { kind: said.number, flag: self.flag(id), name: self.named(name, length), size, referred: referred as u32, entries }
+    }
+
+    /// Bit 31 of the second word of the type at an id.
+    fn flag(&self, id: u32) -> bool {
+        id > 0 && self.table.get(id as usize).is_some_and(|at| self.bytes[*at as usize + 7] & 0x80 != 0)
     }
 
     /// The name of the type at an id, as text.
@@ -203,13 +224,13 @@ impl Btf {
 /// # Errors
 ///
 /// The first refused record, or bytes of a wrong shape. What was applied before stays; what the refused record leaves is
-/// fixed (document 01, sections 3 and 7).
+/// fixed (docs/SCOPE.md, sections 3 and 7).
 pub fn relocate(local: &Btf, target: &Btf, insns: &mut [u8], section_offset: u64, records: &[u8]) -> Result<u64, Refused> {
     let said = ffi::relocate(&local.lent(), &target.lent(), insns, section_offset, records);
     ended(local, target, records, &said)
 }
 
-/// The same, with document 01's report: four lines for each record up to and including the first refused.
+/// The same, with the report of docs/SCOPE.md, section 9: four lines for each record up to and including the first refused.
 pub fn relocate_reported(
     local: &Btf,
     target: &Btf,
@@ -222,6 +243,21 @@ pub fn relocate_reported(
     let said = ffi::relocate_reported(&local.lent(), &target.lent(), insns, section_offset, records, &mut out);
     out.truncate(said.numbers[3] as usize);
     (ended(local, target, records, &said), String::from_utf8_lossy(&out).into_owned())
+}
+
+/// Whether instructions, section offset and records have the shape that a call wants: the first thing that it looks at.
+///
+/// # Errors
+///
+/// [`Refused::Misshapen`] where they have not.
+pub fn check_shape(insns: &[u8], section_offset: u64, records: &[u8]) -> Result<(), Refused> {
+    // The library is asked, over a BTF without types and with the empty string alone, and on a copy.
+    let numbers = [24u32, 0, 0, 0, 1].iter().flat_map(|number| number.to_le_bytes());
+    let empty = Btf::read([0x9f, 0xeb, 1, 0].into_iter().chain(numbers).chain([0]).collect()).expect("the smallest BTF is one");
+    match relocate(&empty, &empty, &mut insns.to_vec(), section_offset, records) {
+        Err(Refused::Misshapen) => Err(Refused::Misshapen),
+        _ => Ok(()),
+    }
 }
 
 /// What a call said, as a result that names the place.

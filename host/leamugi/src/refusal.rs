@@ -1,41 +1,90 @@
-//! Refusals, typed, with document 01's numbers and words that name the place.
+//! Refusals, typed, with the numbers of docs/SCOPE.md, section 3, and words that name the place.
+use crate::fault::Fault;
 use std::fmt;
 
-/// Why bytes are no BTF that can be used.
+/// Which of the two BTFs.
 #[derive(Clone, Copy, Debug, PartialEq, Eq)]
+pub enum Which {
+    /// The program's.
+    Local,
+    /// The kernel's.
+    Target,
+}
+
+impl fmt::Display for Which {
+    fn fmt(&self, f: &mut fmt::Formatter<'_>) -> fmt::Result {
+        f.write_str(match self {
+            Which::Local => "local",
+            Which::Target => "target",
+        })
+    }
+}
+
+/// The most bytes and the most types that a BTF may have.
+const MAX_BYTES: usize = 16_777_216;
+const MAX_TYPES: u32 = 1_048_575;
+
+/// Why bytes are no BTF that can be used.
+#[derive(Clone, Debug, PartialEq, Eq)]
 pub enum BtfRefusal {
-    /// No. 1: the first fault is at this type id; 0 for the header or the strings.
+    /// No. 1: bad BTF.
     Bad {
-        /// The type id, 0 for header or strings.
+        /// The type id of the first fault, 0 for header or strings.
         id: u32,
+        /// That type's name, empty where it has none.
+        name: String,
+        /// Where that type begins in the bytes.
+        at: usize,
+        /// What is wrong there.
+        fault: Fault,
     },
-    /// No. 2: more bytes or types than are carried.
-    OverLimit,
+    /// No. 2: more bytes or more types than are carried.
+    OverLimit {
+        /// How many bytes there are.
+        bytes: usize,
+    },
 }
 
 impl BtfRefusal {
-    /// Document 01's number.
-    pub fn number(self) -> u32 {
+    /// The refusal's number.
+    pub fn number(&self) -> u32 {
         match self {
             BtfRefusal::Bad { .. } => 1,
-            BtfRefusal::OverLimit => 2,
+            BtfRefusal::OverLimit { .. } => 2,
         }
+    }
+
+    /// The same, as a refusal of a call: of which of its two BTFs it is.
+    pub fn of(self, which: Which) -> Refused {
+        Refused::Btf { which, why: self }
     }
 }
 
 impl fmt::Display for BtfRefusal {
     fn fmt(&self, f: &mut fmt::Formatter<'_>) -> fmt::Result {
         match self {
-            BtfRefusal::Bad { id: 0 } => write!(f, "bad BTF: its header or its strings are not as the format says"),
-            BtfRefusal::Bad { id } => write!(f, "bad BTF: the first fault is at type id {id}"),
-            BtfRefusal::OverLimit => write!(f, "BTF over a limit: too many bytes or too many types"),
+            BtfRefusal::Bad { id: 0, fault, .. } => write!(f, "bad BTF: {fault}"),
+            BtfRefusal::Bad { id, name, at, fault } => write!(f, "bad BTF: type id {id} ({}), at byte {at}: {fault}", named(name)),
+            BtfRefusal::OverLimit { bytes } if *bytes > MAX_BYTES => {
+                write!(f, "BTF over a limit: {bytes} bytes, and {MAX_BYTES} are carried")
+            }
+            BtfRefusal::OverLimit { .. } => write!(f, "BTF over a limit: more than {MAX_TYPES} types"),
         }
+    }
+}
+
+/// A type's name, or that it has none.
+fn named(name: &str) -> &str {
+    if name.is_empty() {
+        "unnamed"
+    } else {
+        name
     }
 }
 
 impl std::error::Error for BtfRefusal {}
 
-/// Why a record is refused. The variants are document 01's numbers 4 to 17.
+/// Why a record is refused. The variants are numbers 4 to 17.
 #[derive(Clone, Copy, Debug, PartialEq, Eq)]
 pub enum Why {
     /// No. 4: the record's kind is above 11.
@@ -68,7 +117,7 @@ pub enum Why {
         /// How many conflict.
         count: u64,
     },
-    /// No. 11: the access grows past 64 parts in a candidate.
+    /// No. 11: the access has 64 parts in a candidate, and goes on.
     MaximumNesting {
         /// The candidate's type id.
         id: u32,
@@ -91,7 +140,7 @@ pub enum Why {
 }
 
 impl Why {
-    /// Document 01's number.
+    /// The refusal's number.
     pub fn number(self) -> u32 {
         match self {
             Why::KindTooBig { .. } => 4,
@@ -134,7 +183,7 @@ impl Why {
         })
     }
 
-    /// The values beside the number, as document 01 lists them; the record's own number where that is what is returned.
+    /// The values beside the number, as docs/SCOPE.md lists them; the record's own number where that is what is returned.
     pub fn values(self, record: u64) -> Vec<u64> {
         match self {
             Why::KindTooBig { kind } => vec![kind.into()],
@@ -177,8 +226,10 @@ impl fmt::Display for Why {
             Why::BadAccess => write!(f, "its access string is invalid"),
             Why::IndexTooBig { index, count } => write!(f, "access index {index} is too big: there are {count}"),
             Why::WrongKind => write!(f, "the record's kind is not valid for the type"),
-            Why::Conflict { id, count } => write!(f, "{count} matching types conflict with the first match, the first of them type id {id}"),
-            Why::MaximumNesting { id } => write!(f, "the access grows past 64 parts in candidate type id {id}"),
+            Why::Conflict { id, count } => {
+                write!(f, "{count} matching types conflict with the first match, the first of them type id {id}")
+            }
+            Why::MaximumNesting { id } => write!(f, "the access has 64 parts in candidate type id {id}, and goes on"),
             Why::BadInstruction { reason } => write!(f, "the instruction is invalid (reason {reason}): {}", reason_words(*reason)),
             Why::NoMatch => write!(f, "no target type matches, and a type's id or size is asked for"),
             Why::Unresolved => write!(f, "an id, a string, a size or a chain of modifiers cannot be resolved"),
@@ -205,16 +256,24 @@ pub enum Refused {
         /// Why.
         why: Why,
     },
+    /// No. 1 or 2: one of the two BTFs cannot be used.
+    Btf {
+        /// Which of them.
+        which: Which,
+        /// Why.
+        why: BtfRefusal,
+    },
     /// No. 18: the function's bytes or section offset are no multiple of 8, the records' bytes no multiple of 16, or there
     /// are over 4,096 instructions.
     Misshapen,
 }
 
 impl Refused {
-    /// Document 01's number.
+    /// The refusal's number.
     pub fn number(&self) -> u32 {
         match self {
             Refused::Record { why, .. } => why.number(),
+            Refused::Btf { why, .. } => why.number(),
             Refused::Misshapen => 18,
         }
     }
@@ -223,7 +282,7 @@ impl Refused {
     pub fn applied(&self) -> u64 {
         match self {
             Refused::Record { record, .. } => *record,
-            Refused::Misshapen => 0,
+            Refused::Btf { .. } | Refused::Misshapen => 0,
         }
     }
 }
@@ -232,13 +291,13 @@ impl fmt::Display for Refused {
     fn fmt(&self, f: &mut fmt::Formatter<'_>) -> fmt::Result {
         match self {
             Refused::Record { record, type_id, type_name, candidate, why } => {
-                let name = if type_name.is_empty() { "unnamed" } else { type_name };
-                write!(f, "record {record}, of local type id {type_id} ({name}): {why}")?;
+                write!(f, "record {record}, of local type id {type_id} ({}): {why}", named(type_name))?;
                 match candidate {
                     Some((_, name)) if !name.is_empty() => write!(f, " ({name})"),
                     _ => Ok(()),
                 }
             }
+            Refused::Btf { which, why } => write!(f, "the {which} BTF: {why}"),
             Refused::Misshapen => {
                 write!(f, "instructions and section offset must be multiples of 8 bytes, records of 16, and instructions at most 4,096")
             }
@@ -246,4 +305,11 @@ impl fmt::Display for Refused {
     }
 }
 
-impl std::error::Error for Refused {}
+impl std::error::Error for Refused {
+    fn source(&self) -> Option<&(dyn std::error::Error + 'static)> {
+        match self {
+            Refused::Btf { why, .. } => Some(why),
+            Refused::Record { .. } | Refused::Misshapen => None,
+        }
+    }
+}

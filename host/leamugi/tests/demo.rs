@@ -1,5 +1,5 @@
 //! The demo's function against its small target: values, bytes, report, refusals that name their place.
-use leamugi::{relocate, relocate_reported, Btf, Refused, Why};
+use leamugi::{check_shape, relocate, relocate_reported, Btf, Refused, Why};
 
 fn demo(name: &str) -> Vec<u8> {
     std::fs::read(format!("{}/../../demo/{name}", env!("CARGO_MANIFEST_DIR"))).expect("a file of the demo")
@@ -51,11 +51,13 @@ fn a_refusal_names_its_place() {
 fn bytes_of_a_wrong_shape() {
     let (local, target) = both();
     let records = demo("records.bin");
-    assert_eq!(relocate(&local, &target, &mut [0; 9], 0, &records), Err(Refused::Misshapen));
-    assert_eq!(relocate(&local, &target, &mut [0; 8], 4, &records), Err(Refused::Misshapen));
-    assert_eq!(relocate(&local, &target, &mut [0; 8], 0, &records[1..]), Err(Refused::Misshapen));
+    let wrong = [(9, 0, &records[..]), (8, 4, &records), (8, 0, &records[1..]), (8 * 4097, 0, &[])];
+    for (size, section, records) in wrong {
+        assert_eq!(relocate(&local, &target, &mut vec![0; size], section, records), Err(Refused::Misshapen));
+        assert_eq!(check_shape(&vec![0; size], section, records), Err(Refused::Misshapen));
+    }
     assert_eq!(relocate(&local, &target, &mut [0; 8 * 4096], 0, &[]), Ok(0));
-    assert_eq!(relocate(&local, &target, &mut [0; 8 * 4097], 0, &[]), Err(Refused::Misshapen));
+    assert_eq!(check_shape(&[0; 8 * 4096], 8, &records), Ok(()));
 }
 
 #[test]
@@ -67,4 +69,14 @@ fn types_and_entries_by_id() {
     assert_eq!(local.entry_at(sock, 1).name, b"lsndtime");
     assert_eq!(local.path(sock, "0:0:0:0"), "tcp_sock.inet_conn.icsk_ack.lrcvtime");
     assert_eq!(local.type_at(local.types() + 1).kind, 0);
+    assert_eq!([0, sock, local.types() + 1].map(|id| local.type_at(id).flag), [false; 3]);
+}
+
+#[test]
+fn the_kind_flag_of_a_type() {
+    // FWD of a union, FWD of a struct
+    let types = [0, (1 << 31) | (7 << 24), 0, 0, 7 << 24, 0u32];
+    let words = [24, 0, 24, 24, 1].iter().chain(&types).flat_map(|word| word.to_le_bytes());
+    let btf = Btf::read([0x9f, 0xeb, 1, 0].into_iter().chain(words).chain([0]).collect()).expect("a BTF");
+    assert_eq!([1, 2].map(|id| btf.type_at(id).flag), [true, false]);
 }

@@ -48,7 +48,7 @@ impl Made {
     fn composite(&mut self, name: &str, size: u32, members: &[(&str, u32, u32)]) {
         let name = self.text(name);
         let members: Vec<u32> = members.iter().flat_map(|(name, typ, bits)| [self.text(name), *typ, *bits]).collect();
-        self.words(&[name, STRUCT << 24 | members.len() as u32 / 3, size]);
+        self.words(&[name, (STRUCT << 24) | (members.len() as u32 / 3), size]);
         self.words(&members);
     }
 
@@ -92,7 +92,7 @@ fn run(kind: u32, target: &Made) -> (Result<u64, Refused>, Vec<u8>) {
 fn why(result: Result<u64, Refused>) -> Why {
     match result.expect_err("refused") {
         Refused::Record { why, .. } => why,
-        Refused::Misshapen => panic!("misshapen"),
+        other => panic!("{other}"),
     }
 }
 

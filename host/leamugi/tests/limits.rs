@@ -49,27 +49,27 @@ fn the_last_type_of_a_full_target_is_found() {
 
 #[test]
 fn one_type_more() {
-    assert_eq!(Btf::read(btf(&floats(MAX_TYPES + 1), &[0])).unwrap_err(), BtfRefusal::OverLimit);
+    assert_eq!(Btf::read(btf(&floats(MAX_TYPES + 1), &[0])).unwrap_err().number(), 2);
 }
 
 #[test]
 fn a_type_more_that_is_cut_short_is_over_the_limit_too() {
     let mut types = floats(MAX_TYPES);
     types.push(0);
-    assert_eq!(Btf::read(btf(&types, &[0])).unwrap_err(), BtfRefusal::OverLimit);
+    assert_eq!(Btf::read(btf(&types, &[0])).unwrap_err().number(), 2);
 }
 
 #[test]
 fn bytes_up_to_the_limit() {
     let read = Btf::read(btf(&[], &vec![0; MAX_BYTES - 24])).expect("accepted");
     assert_eq!(read.bytes().len(), MAX_BYTES);
-    assert_eq!(Btf::read(btf(&[], &vec![0; MAX_BYTES - 23])).unwrap_err(), BtfRefusal::OverLimit);
+    assert_eq!(Btf::read(btf(&[], &vec![0; MAX_BYTES - 23])).unwrap_err().number(), 2);
 }
 
 #[test]
 fn the_byte_limit_comes_before_the_header() {
-    assert_eq!(Btf::read(vec![1; MAX_BYTES]).unwrap_err(), BtfRefusal::Bad { id: 0 });
-    assert_eq!(Btf::read(vec![1; MAX_BYTES + 1]).unwrap_err(), BtfRefusal::OverLimit);
+    assert!(matches!(Btf::read(vec![1; MAX_BYTES]).unwrap_err(), BtfRefusal::Bad { id: 0, .. }));
+    assert_eq!(Btf::read(vec![1; MAX_BYTES + 1]).unwrap_err().number(), 2);
 }
 
 /// A type of id `id`, of another length than its neighbours': an INT of that size, a PTR to that id, a prototype of `id % 9` parameters.
@@ -77,7 +77,7 @@ fn varied(id: u32) -> Vec<u8> {
     let (info, third, rest) = match id % 3 {
         0 => (1 << 24, id, vec![0; 4]),
         1 => (2 << 24, id, vec![]),
-        _ => (13 << 24 | id % 9, 0, vec![0; 8 * (id % 9) as usize]),
+        _ => ((13 << 24) | (id % 9), 0, vec![0; 8 * (id % 9) as usize]),
     };
     [0, info, third].iter().flat_map(|word: &u32| word.to_le_bytes()).chain(rest).collect()
 }

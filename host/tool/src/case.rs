@@ -1,8 +1,10 @@
 //! `leamugi case FILE...`: one block for each case file, as docs/CASES.md says.
-use crate::{asks_help, files, help, End};
-use leamugi::{relocate_reported, Btf, BtfRefusal, Refused};
+use crate::{asks_help, complain, files, help, End, Out, Stop};
+use leamugi::{check_shape, relocate_reported, Btf, BtfRefusal, Refused, Which};
+use std::ffi::{OsStr, OsString};
 use std::fmt::Write as _;
 use std::io::Write as _;
+use std::path::Path;
 
 const HELP: &str = "\
 leamugi case FILE...
@@ -10,7 +12,8 @@ leamugi case --list FILE
 
 Runs each case file (docs/CASES.md) and prints one block for each: the report, the outcome, the instructions left.
 With --list, runs each case of a list (oracle/README.md); case= is then the case's number.
-Exit status 0 whatever the answers are; 1 where a file is no case file.";
+Exit status: 0 whatever the answers are, 1 where a file is no case file, 2 where one cannot be read (the others are run all
+the same).";
 
 /// The four byte strings of a case and the section offset.
 struct Case<'a> {
@@ -22,63 +25,55 @@ struct Case<'a> {
 }
 
 /// Runs the command.
-pub fn run(words: &[String]) -> End {
+pub fn run(words: &[OsString], out: &mut Out) -> Result<End, Stop> {
     if asks_help(words) {
-        return help(HELP);
+        return help(HELP, out);
     }
-    if words.is_empty() {
-        return End::BadUse("case takes one or more case files".into());
-    }
-    let done = match words {
-        [word, path] if word == "--list" => list(path),
-        _ => each(words),
-    };
-    match done {
-        Ok(end) => end,
-        Err(why) => End::BadUse(why),
+    match words {
+        [] => Err(Stop::BadUse("case takes one or more case files".into())),
+        [word, path] if word == "--list" => list(path, out),
+        [word, ..] if word == "--list" => Err(Stop::BadUse("case --list takes one list".into())),
+        paths => {
+            let mut end = End::Done;
+            for path in paths {
+                end = end.max(one(path, out)?);
+            }
+            Ok(end)
+        }
     }
 }
 
-/// Runs case files.
-fn each(paths: &[String]) -> Result<End, String> {
-    let mut out = std::io::BufWriter::new(std::io::stdout().lock());
-    let mut end = End::Done;
-    for path in paths {
-        let bytes = files::bytes(path)?;
-        let block = match parse(&bytes) {
-            Some(case) => block(&case),
-            None => {
-                end = End::Refused;
-                "bad case file\nend\n".into()
-            }
-        };
-        write!(out, "case={path}\n{block}").map_err(unwritten)?;
-    }
-    out.flush().map_err(unwritten)?;
+/// Runs a case file.
+fn one(path: &OsStr, out: &mut Out) -> Result<End, Stop> {
+    let (bytes, unread) = match files::bytes(path) {
+        Ok(bytes) => (bytes, End::Refused),
+        Err(why) => {
+            complain(&why);
+            (vec![], End::BadUse)
+        }
+    };
+    let (block, end) = match parse(&bytes) {
+        Some(case) => (block(&case), End::Done),
+        None => ("bad case file\nend\n".into(), unread),
+    };
+    write!(out, "case={}\n{block}", Path::new(path).display())?;
     Ok(end)
 }
 
 /// Runs the cases of a list.
-fn list(path: &str) -> Result<End, String> {
+fn list(path: &OsStr, out: &mut Out) -> Result<End, Stop> {
     let bytes = files::bytes(path)?;
-    if bytes.get(..8) != Some(b"LEALIST1") {
-        return Err(format!("{path} is no list of cases"));
-    }
-    let mut out = std::io::BufWriter::new(std::io::stdout().lock());
-    let mut rest = &bytes[32..];
+    let name = Path::new(path).display();
+    let begins = bytes.starts_with(b"LEALIST1");
+    let mut rest = bytes.get(32..).filter(|_| begins).ok_or(format!("{name} is no list of cases"))?;
     let mut number = 0;
     while !rest.is_empty() {
-        let (case, after) = entry(rest).ok_or(format!("{path} ends inside case {number}"))?;
-        write!(out, "case={number}\n{}", block(&case)).map_err(unwritten)?;
+        let (case, after) = entry(rest).ok_or(format!("{name} ends inside case {number}"))?;
+        write!(out, "case={number}\n{}", block(&case))?;
         rest = after;
         number += 1;
     }
-    out.flush().map_err(unwritten)?;
     Ok(End::Done)
-}
-
-fn unwritten(error: std::io::Error) -> String {
-    format!("cannot write to standard output: {error}")
 }
 
 /// The number in four bytes.
@@ -90,7 +85,7 @@ fn word(bytes: &[u8], at: usize) -> Option<usize> {
 fn entry(bytes: &[u8]) -> Option<(Case<'_>, &[u8])> {
     let section = u64::from_le_bytes(bytes.get(16..24)?.try_into().ok()?);
     let lengths = [word(bytes, 0)?, word(bytes, 4)?, word(bytes, 8)?, word(bytes, 12)?];
-    let (case, after) = parts(&bytes[32..], lengths, section)?;
+    let (case, after) = parts(bytes.get(32..)?, lengths, section)?;
     Some((case, after.get(word(bytes, 24)?..)?))
 }
 
@@ -129,61 +124,40 @@ fn block(case: &Case) -> String {
     block
 }
 
+/// The report and the outcome, in the order of docs/SCOPE.md, section 3.
 fn outcome(case: &Case, insns: &mut [u8]) -> (String, String) {
-    // Bytes of a wrong shape are refused before a BTF is looked at: two empty BTFs stand in for the call.
-    if let Some(outcome) = misshapen(case) {
-        return (String::new(), outcome);
-    }
-    let local = match Btf::read(case.local.to_vec()) {
-        Ok(btf) => btf,
-        Err(refused) => return (String::new(), unread("local", refused)),
-    };
-    let target = match Btf::read(case.target.to_vec()) {
-        Ok(btf) => btf,
-        Err(refused) => return (String::new(), unread("target", refused)),
+    let (local, target) = match between(case) {
+        Ok(both) => both,
+        Err(refused) => return (String::new(), said(&Err(refused))),
     };
     let (result, report) = relocate_reported(&local, &target, insns, case.section, case.records);
     (report, said(&result))
 }
 
-/// The outcome of a case of a wrong shape: asked of the library, over the smallest BTF.
-fn misshapen(case: &Case) -> Option<String> {
-    let empty = Btf::read(smallest()).expect("the smallest BTF is one");
-    match leamugi::relocate(&empty, &empty, &mut case.insns.to_vec(), case.section, case.records) {
-        Err(Refused::Misshapen) => Some(said(&Err(Refused::Misshapen))),
-        _ => None,
-    }
+/// The two BTFs, once the rest has its shape.
+fn between(case: &Case) -> Result<(Btf, Btf), Refused> {
+    check_shape(case.insns, case.section, case.records)?;
+    let read = |bytes: &[u8], which: Which| Btf::read(bytes.to_vec()).map_err(|why| why.of(which));
+    Ok((read(case.local, Which::Local)?, read(case.target, Which::Target)?))
 }
 
-/// A BTF without types, and with the empty string alone.
-fn smallest() -> Vec<u8> {
-    let mut bytes = vec![0x9f, 0xeb, 1, 0];
-    for number in [24u32, 0, 0, 0, 1] {
-        bytes.extend(number.to_le_bytes());
-    }
-    bytes.push(0);
-    bytes
-}
-
-fn unread(which: &str, refused: BtfRefusal) -> String {
-    match refused {
-        BtfRefusal::Bad { id } => format!("outcome=1 btf={which} id={id} applied=0"),
-        BtfRefusal::OverLimit => format!("outcome=2 btf={which} applied=0"),
-    }
-}
-
-/// The outcome line of a call on two accepted BTFs.
+/// The outcome line of a call.
 fn said(result: &Result<u64, Refused>) -> String {
-    let refused = match result {
-        Ok(applied) => return format!("outcome=0 applied={applied}"),
-        Err(refused) => refused,
+    match result {
+        Ok(applied) => format!("outcome=0 applied={applied}"),
+        Err(refused) => format!("outcome={}{} applied={}", refused.number(), beside(refused), refused.applied()),
+    }
+}
+
+/// What stands beside a refusal's number.
+fn beside(refused: &Refused) -> String {
+    let (record, why) = match refused {
+        Refused::Misshapen => return String::new(),
+        Refused::Btf { which, why: BtfRefusal::Bad { id, .. } } => return format!(" btf={which} id={id}"),
+        Refused::Btf { which, why: BtfRefusal::OverLimit { .. } } => return format!(" btf={which}"),
+        Refused::Record { record, why, .. } => (*record, *why),
     };
-    let number = refused.number();
-    let applied = refused.applied();
-    let Refused::Record { record, why, .. } = refused else {
-        return format!("outcome={number} applied={applied}");
-    };
-    let keys: &[&str] = match number {
+    let keys: &[&str] = match why.number() {
         4 => &["kind"],
         6 => &["index"],
         8 => &["index", "count"],
@@ -192,6 +166,5 @@ fn said(result: &Result<u64, Refused>) -> String {
         12 => &["reason"],
         _ => &["record"],
     };
-    let values: Vec<String> = keys.iter().zip(why.values(*record)).map(|(key, value)| format!("{key}={value}")).collect();
-    format!("outcome={number} {} applied={applied}", values.join(" "))
+    keys.iter().zip(why.values(record)).map(|(key, value)| format!(" {key}={value}")).collect()
 }

@@ -1,6 +1,8 @@
 //! `leamugi demo`: the main job on what is embedded: a function that reads a TCP socket's last activity (demo/).
-use crate::{asks_help, files, help, insn, End};
-use leamugi::Btf;
+use crate::{asks_help, complain, files, help, insn, End, Out, Stop};
+use leamugi::{Btf, Which};
+use std::ffi::{OsStr, OsString};
+use std::io::Write as _;
 
 const HELP: &str = "\
 leamugi demo
@@ -31,52 +33,53 @@ const KINDS: [&str; 12] = [
 ];
 
 /// Runs the command.
-pub fn run(words: &[String]) -> End {
+pub fn run(words: &[OsString], out: &mut Out) -> Result<End, Stop> {
     if asks_help(words) {
-        return help(HELP);
+        return help(HELP, out);
     }
     if let Some(word) = words.first() {
-        return End::BadUse(format!("demo takes no '{word}'"));
+        return Err(Stop::BadUse(format!("demo takes no '{}'", word.to_string_lossy())));
     }
     let local = Btf::read(LOCAL.to_vec()).expect("the embedded BTF is one");
-    let target = target();
+    let target = target(out)?;
     let mut insns = INSNS.to_vec();
     let (result, report) = leamugi::relocate_reported(&local, &target, &mut insns, 0, RECORDS);
-    println!("records");
+    writeln!(out, "records")?;
     for (number, record) in RECORDS.chunks(16).enumerate() {
-        println!("  {number}: {}", told(&local, record, &value(&report, number)));
+        writeln!(out, "  {number}: {}", told(&local, record, &value(&report, number)))?;
     }
-    println!("instructions");
+    writeln!(out, "instructions")?;
     for (index, (before, after)) in INSNS.chunks(8).zip(insns.chunks(8)).enumerate() {
-        println!("  {index:3}  {}", insn::line(before));
+        writeln!(out, "  {index:3}  {}", insn::line(before))?;
         if before != after {
-            println!("   ->  {}", insn::line(after));
+            writeln!(out, "   ->  {}", insn::line(after))?;
         }
     }
-    println!("report");
-    print!("{report}");
+    write!(out, "report\n{report}")?;
     match result {
         Ok(applied) => {
-            println!("{applied} records applied");
-            End::Done
+            writeln!(out, "{applied} records applied")?;
+            Ok(End::Done)
         }
         Err(refused) => {
-            eprintln!("leamugi: refusal {}: {refused}", refused.number());
-            End::Refused
+            out.flush()?;
+            complain(&format!("refusal {}: {refused}", refused.number()));
+            Ok(End::Refused)
         }
     }
 }
 
 /// The running kernel's BTF where it can be used, else the embedded one; says which.
-fn target() -> Btf {
-    match files::btf(files::RUNNING, "target") {
+fn target(out: &mut Out) -> Result<Btf, Stop> {
+    let path = OsStr::new(files::RUNNING);
+    match files::bytes(path).and_then(|bytes| files::btf(bytes, path, Which::Target)) {
         Ok(btf) => {
-            println!("target: the running kernel, {} types", btf.types());
-            btf
+            writeln!(out, "target: the running kernel, {} types", btf.types())?;
+            Ok(btf)
         }
         Err(why) => {
-            println!("target: embedded ({why})");
-            Btf::read(EMBEDDED.to_vec()).expect("the embedded BTF is one")
+            writeln!(out, "target: embedded ({why})")?;
+            Ok(Btf::read(EMBEDDED.to_vec()).expect("the embedded BTF is one"))
         }
     }
 }

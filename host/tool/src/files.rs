@@ -1,15 +1,18 @@
 //! Files, with errors of one line.
-use leamugi::Btf;
+use leamugi::{Btf, Which};
+use std::ffi::OsStr;
+use std::path::Path;
 
 /// Where a running kernel keeps its BTF.
 pub const RUNNING: &str = "/sys/kernel/btf/vmlinux";
 
 /// A file's bytes.
-pub fn bytes(path: &str) -> Result<Vec<u8>, String> {
-    std::fs::read(path).map_err(|error| format!("cannot read {path}: {error}"))
+pub fn bytes(path: &OsStr) -> Result<Vec<u8>, String> {
+    std::fs::read(path).map_err(|error| format!("cannot read {}: {error}", Path::new(path).display()))
 }
 
-/// A file as a BTF.
-pub fn btf(path: &str, which: &str) -> Result<Btf, String> {
-    Btf::read(bytes(path)?).map_err(|refused| format!("{which} BTF {path}: refusal {}: {refused}", refused.number()))
+/// Bytes of a file as a BTF, or the refusal in one line.
+pub fn btf(bytes: Vec<u8>, path: &OsStr, which: Which) -> Result<Btf, String> {
+    let line = |why: leamugi::BtfRefusal| format!("{}: refusal {}: {}", Path::new(path).display(), why.number(), why.of(which));
+    Btf::read(bytes).map_err(line)
 }

@@ -1,5 +1,9 @@
 //! `leamugi relocate`
-use crate::{asks_help, files, help, End};
+use crate::{asks_help, complain, files, help, End, Out, Stop};
+use leamugi::{Btf, Which};
+use std::ffi::{OsStr, OsString};
+use std::io::Write as _;
+use std::path::Path;
 
 const HELP: &str = "\
 leamugi relocate --local FILE --records FILE --insns FILE [--target FILE] [--section-offset N] [--out FILE]
@@ -8,77 +12,122 @@ leamugi relocate --local FILE --records FILE --insns FILE [--target FILE] [--sec
   --target FILE         the kernel's BTF; the running kernel's by default
   --records FILE        CO-RE records of the function, 16 bytes each
   --insns FILE          the function's instructions, 8 bytes each
-  --section-offset N    where the function begins in its section (0 by default)
+  --section-offset N    where the function begins in its section, in bytes (0 by default)
   --out FILE            where to write the relocated instructions; else they are printed in hexadecimal
 
-The report goes to standard output, progress and errors to standard error.
-Exit status: 0 all records applied, 1 refused (what was applied before stays in the output), 2 bad use.";
+Each is given once. The report goes to standard output, progress and errors to standard error.
+Exit status: 0 all records applied, 1 refused (where a record is, what was applied before stays in the output), 2 bad use.";
 
-struct Words {
-    local: Option<String>,
-    target: String,
-    records: Option<String>,
-    insns: Option<String>,
+/// What the options say.
+#[derive(Default)]
+struct Words<'a> {
+    local: Option<&'a OsStr>,
+    target: Option<&'a OsStr>,
+    records: Option<&'a OsStr>,
+    insns: Option<&'a OsStr>,
+    section: Option<&'a OsStr>,
+    out: Option<&'a OsStr>,
+}
+
+/// The files' bytes.
+struct Given<'a> {
+    local: Vec<u8>,
+    local_path: &'a OsStr,
+    target: Vec<u8>,
+    target_path: &'a OsStr,
+    records: Vec<u8>,
+    insns: Vec<u8>,
     section: u64,
-    out: Option<String>,
 }
 
 /// Runs the command.
-pub fn run(words: &[String]) -> End {
+pub fn run(words: &[OsString], out: &mut Out) -> Result<End, Stop> {
     if asks_help(words) {
-        return help(HELP);
+        return help(HELP, out);
     }
-    match parse(words).and_then(|words| relocate(&words)) {
-        Ok(end) => end,
-        Err(why) => End::BadUse(why),
+    let words = parse(words)?;
+    let mut given = read(&words)?;
+    match between(&given) {
+        Err(refused) => {
+            complain(&refused);
+            Ok(End::Refused)
+        }
+        Ok((local, target)) => relocate(&local, &target, &mut given, words.out, out),
     }
 }
 
-fn parse(words: &[String]) -> Result<Words, String> {
-    let mut given = Words { local: None, target: files::RUNNING.into(), records: None, insns: None, section: 0, out: None };
+/// The options, each with its value.
+fn parse(words: &[OsString]) -> Result<Words<'_>, String> {
+    let mut given = Words::default();
     let mut rest = words.iter();
     while let Some(word) = rest.next() {
-        let mut value = || rest.next().cloned().ok_or(format!("{word} takes a value"));
-        match word.as_str() {
-            "--local" => given.local = Some(value()?),
-            "--target" => given.target = value()?,
-            "--records" => given.records = Some(value()?),
-            "--insns" => given.insns = Some(value()?),
-            "--out" => given.out = Some(value()?),
-            "--section-offset" => {
-                let text = value()?;
-                given.section = text.parse().map_err(|_| format!("--section-offset takes a number, not '{text}'"))?;
-            }
+        let name = word.to_string_lossy();
+        let place = match &*name {
+            "--local" => &mut given.local,
+            "--target" => &mut given.target,
+            "--records" => &mut given.records,
+            "--insns" => &mut given.insns,
+            "--section-offset" => &mut given.section,
+            "--out" => &mut given.out,
             other => return Err(format!("unknown word '{other}' (try leamugi relocate --help)")),
+        };
+        let value = rest.next().filter(|value| !value.to_string_lossy().starts_with("--"));
+        let value = value.ok_or(format!("{name} takes a value (try leamugi relocate --help)"))?;
+        if place.replace(value).is_some() {
+            return Err(format!("{name} is given twice"));
         }
     }
     Ok(given)
 }
 
-fn needed<'a>(value: &'a Option<String>, name: &str) -> Result<&'a str, String> {
-    value.as_deref().ok_or(format!("{name} FILE is needed (try leamugi relocate --help)"))
+/// The files that the options name.
+fn read<'a>(words: &Words<'a>) -> Result<Given<'a>, String> {
+    let needed = |path: Option<&'a OsStr>, name: &str| path.ok_or(format!("{name} FILE is needed (try leamugi relocate --help)"));
+    let (local_path, records, insns) =
+        (needed(words.local, "--local")?, needed(words.records, "--records")?, needed(words.insns, "--insns")?);
+    let target_path = words.target.unwrap_or(OsStr::new(files::RUNNING));
+    Ok(Given {
+        section: section(words.section)?,
+        local: files::bytes(local_path)?,
+        local_path,
+        records: files::bytes(records)?,
+        insns: files::bytes(insns)?,
+        target: files::bytes(target_path)?,
+        target_path,
+    })
 }
 
-fn relocate(words: &Words) -> Result<End, String> {
-    let local = files::btf(needed(&words.local, "--local")?, "local")?;
-    let records = files::bytes(needed(&words.records, "--records")?)?;
-    let mut insns = files::bytes(needed(&words.insns, "--insns")?)?;
-    eprintln!("reading {}", words.target);
-    let target = files::btf(&words.target, "target")?;
-    eprintln!("{} records against {} types", records.len() / 16, target.types());
-    let (result, report) = leamugi::relocate_reported(&local, &target, &mut insns, words.section, &records);
-    print!("{report}");
-    match &words.out {
-        Some(path) => std::fs::write(path, &insns).map_err(|error| format!("cannot write {path}: {error}"))?,
-        None => println!("insns={}", insns.iter().map(|byte| format!("{byte:02x}")).collect::<String>()),
+fn section(value: Option<&OsStr>) -> Result<u64, String> {
+    let text = value.unwrap_or(OsStr::new("0")).to_string_lossy();
+    text.parse().map_err(|_| format!("--section-offset takes a decimal number of bytes, not '{text}'"))
+}
+
+/// The two BTFs, once the rest has its shape: the order of docs/SCOPE.md, section 3. A refusal in one line.
+fn between(given: &Given) -> Result<(Btf, Btf), String> {
+    leamugi::check_shape(&given.insns, given.section, &given.records)
+        .map_err(|refused| format!("refusal {}: {refused}", refused.number()))?;
+    let local = files::btf(given.local.clone(), given.local_path, Which::Local)?;
+    eprintln!("reading {}", Path::new(given.target_path).display());
+    let target = files::btf(given.target.clone(), given.target_path, Which::Target)?;
+    Ok((local, target))
+}
+
+fn relocate(local: &Btf, target: &Btf, given: &mut Given, path: Option<&OsStr>, out: &mut Out) -> Result<End, Stop> {
+    eprintln!("{} records against {} types", given.records.len() / 16, target.types());
+    let (result, report) = leamugi::relocate_reported(local, target, &mut given.insns, given.section, &given.records);
+    write!(out, "{report}")?;
+    match path {
+        Some(path) => std::fs::write(path, &given.insns).map_err(|error| format!("cannot write {}: {error}", Path::new(path).display()))?,
+        None => writeln!(out, "insns={}", given.insns.iter().map(|byte| format!("{byte:02x}")).collect::<String>())?,
     }
+    out.flush()?;
     Ok(match result {
         Ok(applied) => {
             eprintln!("{applied} records applied");
             End::Done
         }
         Err(refused) => {
-            eprintln!("leamugi: refusal {}: {refused}", refused.number());
+            complain(&format!("refusal {}: {refused}", refused.number()));
             End::Refused
         }
     })
