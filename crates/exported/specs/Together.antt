@@ -8,7 +8,6 @@ use mathlib.Core.List.{List, [], _∷_}
 use native.Mathlib.Omega.{arith}
 use lib.ListN.{length}
 use lib.Seq.{sets}
-use borrow.Author.Tests.{lt-ltb}
 use Rattle.btf.specs.declared.Btf.{Btf}
 use Rattle.btf.specs.declared.Answer.the-variants.{Read}
 use Rattle.btf.specs.Table.{decode, tabled}
@@ -20,7 +19,7 @@ use Rattle.rules.specs.Report.{report, reportSaid}
 use Rattle.rules.specs.ReportLaws.{said-read}
 use Rattle.relocate.specs.Reading.{read-before}
 use Rattle.growth.specs.Demand3.{Extended, SettledCall, Demand3Call}
-use Rattle.growth.specs.Proved.{demand3-tables}
+use Rattle.growth.specs.Proved.{read-in, demand3-tables}
 use Rattle.numbers.specs.Numbers.{five, readNumbers, btfOf}
 
 -- The BTF that the other calls take a reading's buffer for, once `leamugi_read` has said its five numbers there
@@ -64,18 +63,13 @@ module _ (l ltable lread t ttable tread : List ℕ) {lb tb : Btf} (p : Read lb �
 -- A target and the same target grown, each read into a table that is long enough: demand 3 of two exported calls
 module _ {s s′ : List ℕ} (g : Extended s s′) (table read table′ read′ : List ℕ) (long : g .old .last < length table) (long′ : g .new .last < length table′)
     (h : 5 ≤ length read) (h′ : 5 ≤ length read′) where
-  is-read : Read (g .old) ≡ decode s (length table)
-  unfolding decode
-  is-read = rw (← (g .oldAccepted), lt-ltb (g .old .last) (length table) long)
-
-  is-read′ : Read (g .new) ≡ decode s′ (length table′)
-  unfolding decode
-  is-read′ = rw (← (g .newAccepted), lt-ltb (g .new .last) (length table′) long′)
-
   pub grown : (L : View) (section : ℕ) (insns rs : List ℕ)
       → SettledCall L (seen s table read) (recordsIn rs) (relocateRead L (seen s table read) insns section rs)
       → Demand3Call L (seen s table read) (seen s′ table′ read′) section insns (recordsIn rs)
       (relocateRead L (seen s table read) insns section rs) (relocateRead L (seen s′ table′ read′) insns section rs)
   grown =
-      rw (handed-on s table read (g .old) is-read h, handed-on s′ table′ read′ (g .new) is-read′ h′)
+      rw (
+        handed-on s table read (g .old) (read-in s (g .old) table (g .oldAccepted) long) h,
+        handed-on s′ table′ read′ (g .new) (read-in s′ (g .new) table′ (g .newAccepted) long′) h′,
+      )
       (demand3-tables g table table′ long long′)

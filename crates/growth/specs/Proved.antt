@@ -24,12 +24,14 @@ pub btf-in : (s : List ℕ) (b : Btf) → Accepted b ≡ accepted s → btfIn s 
 unfolding btfIn
 btf-in s b h = rw (← h)
 
--- and a table that is long enough, once filled, shows it.
+-- are read into a table that is long enough,
+pub read-in : (s : List ℕ) (b : Btf) (table : List ℕ) → Accepted b ≡ accepted s → b .last < length table → Read b ≡ decode s (length table)
+unfolding decode
+read-in s b table h l = rw (← h, lt-ltb (b .last) (length table) l)
+
+-- and that table, once filled, shows it.
 pub table-in : (s : List ℕ) (b : Btf) (table : List ℕ) → Accepted b ≡ accepted s → b .last < length table → tabView s (tabled s table) b ≡ btfIn s
-table-in s b table h l = agrees s table b read ∙ sym (btf-in s b h)
-  where
-    read : Read b ≡ decode s (length table)
-    read = unfold decode in rw (← h, lt-ltb (b .last) (length table) l)
+table-in s b table h l = agrees s table b (read-in s b table h l) ∙ sym (btf-in s b h)
 
 module _ {s s′ : List ℕ} (g : Extended s s′) where
   closed-old : Closed (btfIn s)

@@ -260,6 +260,18 @@ pub fn check_shape(insns: &[u8], section_offset: u64, records: &[u8]) -> Result<
     }
 }
 
+/// The two BTFs of a call, once the rest has its shape: what is refused, in the order of docs/SCOPE.md, section 3.
+///
+/// # Errors
+///
+/// A wrong shape, else the local BTF, else the target BTF.
+pub fn read_both(local: Vec<u8>, target: Vec<u8>, insns: &[u8], section_offset: u64, records: &[u8]) -> Result<(Btf, Btf), Refused> {
+    check_shape(insns, section_offset, records)?;
+    let local = Btf::read(local).map_err(|why| why.of(Which::Local))?;
+    let target = Btf::read(target).map_err(|why| why.of(Which::Target))?;
+    Ok((local, target))
+}
+
 /// What a call said, as a result that names the place.
 fn ended(local: &Btf, target: &Btf, records: &[u8], said: &ffi::Said) -> Result<u64, Refused> {
     let [applied, a, b, ..] = said.numbers;

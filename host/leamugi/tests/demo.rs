@@ -1,5 +1,5 @@
 //! The demo's function against its small target: values, bytes, report, refusals that name their place.
-use leamugi::{check_shape, relocate, relocate_reported, Btf, Refused, Why};
+use leamugi::{check_shape, read_both, relocate, relocate_reported, Btf, Refused, Why};
 
 fn demo(name: &str) -> Vec<u8> {
     std::fs::read(format!("{}/../../demo/{name}", env!("CARGO_MANIFEST_DIR"))).expect("a file of the demo")
@@ -58,6 +58,19 @@ fn bytes_of_a_wrong_shape() {
     }
     assert_eq!(relocate(&local, &target, &mut [0; 8 * 4096], 0, &[]), Ok(0));
     assert_eq!(check_shape(&[0; 8 * 4096], 8, &records), Ok(()));
+}
+
+#[test]
+fn what_is_refused_before_the_records() {
+    let (good, bad, insns) = (demo("local.btf"), vec![], demo("insns.bin"));
+    let said = |local: &Vec<u8>, target: &Vec<u8>, records: &[u8]| {
+        let refused = read_both(local.clone(), target.clone(), &insns, 0, records).expect_err("refused");
+        refused.to_string().split(':').next().unwrap_or_default().to_string()
+    };
+    assert!(said(&bad, &bad, &[0]).starts_with("instructions and section offset must be"));
+    assert_eq!(said(&bad, &bad, &[]), "the local BTF");
+    assert_eq!(said(&good, &bad, &[]), "the target BTF");
+    assert!(read_both(good.clone(), good.clone(), &insns, 0, &[]).is_ok());
 }
 
 #[test]

@@ -1,6 +1,6 @@
 //! `leamugi case FILE...`: one block for each case file, as docs/CASES.md says.
 use crate::{asks_help, complain, files, help, End, Out, Stop};
-use leamugi::{check_shape, relocate_reported, Btf, BtfRefusal, Refused, Which};
+use leamugi::{read_both, relocate_reported, BtfRefusal, Refused};
 use std::ffi::{OsStr, OsString};
 use std::fmt::Write as _;
 use std::io::Write as _;
@@ -124,21 +124,15 @@ fn block(case: &Case) -> String {
     block
 }
 
-/// The report and the outcome, in the order of docs/SCOPE.md, section 3.
+/// The report and the outcome.
 fn outcome(case: &Case, insns: &mut [u8]) -> (String, String) {
-    let (local, target) = match between(case) {
-        Ok(both) => both,
-        Err(refused) => return (String::new(), said(&Err(refused))),
-    };
-    let (result, report) = relocate_reported(&local, &target, insns, case.section, case.records);
-    (report, said(&result))
-}
-
-/// The two BTFs, once the rest has its shape.
-fn between(case: &Case) -> Result<(Btf, Btf), Refused> {
-    check_shape(case.insns, case.section, case.records)?;
-    let read = |bytes: &[u8], which: Which| Btf::read(bytes.to_vec()).map_err(|why| why.of(which));
-    Ok((read(case.local, Which::Local)?, read(case.target, Which::Target)?))
+    match read_both(case.local.to_vec(), case.target.to_vec(), insns, case.section, case.records) {
+        Err(refused) => (String::new(), said(&Err(refused))),
+        Ok((local, target)) => {
+            let (result, report) = relocate_reported(&local, &target, insns, case.section, case.records);
+            (report, said(&result))
+        }
+    }
 }
 
 /// The outcome line of a call.

@@ -71,8 +71,8 @@ pub fn run(words: &[OsString], out: &mut Out) -> Result<End, Stop> {
 
 /// The running kernel's BTF where it can be used, else the embedded one; says which.
 fn target(out: &mut Out) -> Result<Btf, Stop> {
-    let path = OsStr::new(files::RUNNING);
-    match files::bytes(path).and_then(|bytes| files::btf(bytes, path, Which::Target)) {
+    let running = files::bytes(OsStr::new(files::RUNNING));
+    match running.and_then(|bytes| Btf::read(bytes).map_err(|why| format!("refusal {}: {}", why.number(), why.of(Which::Target)))) {
         Ok(btf) => {
             writeln!(out, "target: the running kernel, {} types", btf.types())?;
             Ok(btf)

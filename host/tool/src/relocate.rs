@@ -1,6 +1,6 @@
 //! `leamugi relocate`
 use crate::{asks_help, complain, files, help, End, Out, Stop};
-use leamugi::{Btf, Which};
+use leamugi::{read_both, relocate_reported, Refused};
 use std::ffi::{OsStr, OsString};
 use std::io::Write as _;
 use std::path::Path;
@@ -30,11 +30,9 @@ struct Words<'a> {
 }
 
 /// The files' bytes.
-struct Given<'a> {
+struct Given {
     local: Vec<u8>,
-    local_path: &'a OsStr,
     target: Vec<u8>,
-    target_path: &'a OsStr,
     records: Vec<u8>,
     insns: Vec<u8>,
     section: u64,
@@ -46,14 +44,28 @@ pub fn run(words: &[OsString], out: &mut Out) -> Result<End, Stop> {
         return help(HELP, out);
     }
     let words = parse(words)?;
-    let mut given = read(&words)?;
-    match between(&given) {
-        Err(refused) => {
-            complain(&refused);
-            Ok(End::Refused)
+    let Given { local, target, records, mut insns, section } = read(&words)?;
+    let (local, target) = match read_both(local, target, &insns, section, &records) {
+        Ok(both) => both,
+        Err(refused) => return Ok(refuse(&refused)),
+    };
+    eprintln!("{} records against {} types", records.len() / 16, target.types());
+    let (result, report) = relocate_reported(&local, &target, &mut insns, section, &records);
+    write!(out, "{report}")?;
+    leave(&insns, words.out, out)?;
+    Ok(match result {
+        Ok(applied) => {
+            eprintln!("{applied} records applied");
+            End::Done
         }
-        Ok((local, target)) => relocate(&local, &target, &mut given, words.out, out),
-    }
+        Err(refused) => refuse(&refused),
+    })
+}
+
+/// A refusal in one line.
+fn refuse(refused: &Refused) -> End {
+    complain(&format!("refusal {}: {refused}", refused.number()));
+    End::Refused
 }
 
 /// The options, each with its value.
@@ -81,20 +93,14 @@ fn parse(words: &[OsString]) -> Result<Words<'_>, String> {
 }
 
 /// The files that the options name.
-fn read<'a>(words: &Words<'a>) -> Result<Given<'a>, String> {
-    let needed = |path: Option<&'a OsStr>, name: &str| path.ok_or(format!("{name} FILE is needed (try leamugi relocate --help)"));
-    let (local_path, records, insns) =
-        (needed(words.local, "--local")?, needed(words.records, "--records")?, needed(words.insns, "--insns")?);
-    let target_path = words.target.unwrap_or(OsStr::new(files::RUNNING));
-    Ok(Given {
-        section: section(words.section)?,
-        local: files::bytes(local_path)?,
-        local_path,
-        records: files::bytes(records)?,
-        insns: files::bytes(insns)?,
-        target: files::bytes(target_path)?,
-        target_path,
-    })
+fn read(words: &Words) -> Result<Given, String> {
+    let needed =
+        |path: Option<&OsStr>, name: &str| files::bytes(path.ok_or(format!("{name} FILE is needed (try leamugi relocate --help)"))?);
+    let target = words.target.unwrap_or(OsStr::new(files::RUNNING));
+    let section = section(words.section)?;
+    let (local, records, insns) = (needed(words.local, "--local")?, needed(words.records, "--records")?, needed(words.insns, "--insns")?);
+    eprintln!("reading {}", Path::new(target).display());
+    Ok(Given { local, target: files::bytes(target)?, records, insns, section })
 }
 
 fn section(value: Option<&OsStr>) -> Result<u64, String> {
@@ -102,33 +108,11 @@ fn section(value: Option<&OsStr>) -> Result<u64, String> {
     text.parse().map_err(|_| format!("--section-offset takes a decimal number of bytes, not '{text}'"))
 }
 
-/// The two BTFs, once the rest has its shape: the order of docs/SCOPE.md, section 3. A refusal in one line.
-fn between(given: &Given) -> Result<(Btf, Btf), String> {
-    leamugi::check_shape(&given.insns, given.section, &given.records)
-        .map_err(|refused| format!("refusal {}: {refused}", refused.number()))?;
-    let local = files::btf(given.local.clone(), given.local_path, Which::Local)?;
-    eprintln!("reading {}", Path::new(given.target_path).display());
-    let target = files::btf(given.target.clone(), given.target_path, Which::Target)?;
-    Ok((local, target))
-}
-
-fn relocate(local: &Btf, target: &Btf, given: &mut Given, path: Option<&OsStr>, out: &mut Out) -> Result<End, Stop> {
-    eprintln!("{} records against {} types", given.records.len() / 16, target.types());
-    let (result, report) = leamugi::relocate_reported(local, target, &mut given.insns, given.section, &given.records);
-    write!(out, "{report}")?;
+/// The instructions into a file, else in hexadecimal.
+fn leave(insns: &[u8], path: Option<&OsStr>, out: &mut Out) -> Result<(), Stop> {
     match path {
-        Some(path) => std::fs::write(path, &given.insns).map_err(|error| format!("cannot write {}: {error}", Path::new(path).display()))?,
-        None => writeln!(out, "insns={}", given.insns.iter().map(|byte| format!("{byte:02x}")).collect::<String>())?,
+        Some(path) => std::fs::write(path, insns).map_err(|error| format!("cannot write {}: {error}", Path::new(path).display()))?,
+        None => writeln!(out, "insns={}", insns.iter().map(|byte| format!("{byte:02x}")).collect::<String>())?,
     }
-    out.flush()?;
-    Ok(match result {
-        Ok(applied) => {
-            eprintln!("{applied} records applied");
-            End::Done
-        }
-        Err(refused) => {
-            complain(&format!("refusal {}: {refused}", refused.number()));
-            End::Refused
-        }
-    })
+    Ok(out.flush()?)
 }
