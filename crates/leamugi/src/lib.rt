@@ -1,27 +1,26 @@
 // The exported calls, on numbers and slices: each hands over to a proved function and lays out what it said as numbers.
 // Every call answers for any bytes, any table and any numbers.
-use btf::read;
-use endings::ending_numbers;
-use numbers::Numbers;
-use numbers::btf_from;
-use numbers::entry_numbers;
-use numbers::put_five;
-use numbers::reading_numbers;
-use numbers::said_numbers;
-use numbers::type_numbers;
-use records::relocate_read;
-use reporting::Reported;
-use reporting::report;
+use btf_accept::read;
+use call_records::relocate_read;
+use call_report::Reported;
+use call_report::report;
+use leamugi_numbers::Numbers;
+use leamugi_numbers::btf_from;
+use leamugi_numbers::ending_numbers;
+use leamugi_numbers::entry_numbers;
+use leamugi_numbers::put_five;
+use leamugi_numbers::reading_numbers;
+use leamugi_numbers::said_numbers;
+use leamugi_numbers::type_numbers;
 ghost use mathlib.Core.Path.{_≡_};
 ghost use lib.ListN.{length};
 ghost use lib.Seq.{sets};
-ghost use Rattle.btf.specs.Table.{decode, tabled};
-ghost use Rattle.view.specs.View.{tabView};
+ghost use Rattle.btf_accept.specs.Table.{decode, tabled};
 ghost use Rattle.rules.specs.Call.{relocateRead};
-ghost use Rattle.reporting.specs.Reported.{reported, holding};
-ghost use Rattle.numbers.specs.Numbers.{five, btfOf, readNumbers, typeNumbers, entryNumbers};
-ghost use Rattle.endings.specs.Endings.{saidNumbers};
-ghost use Rattle.leamugi.specs.Calls.{lengthOf, reportedNumbers, reportOf};
+ghost use Rattle.call_report.specs.Reported.{reported, holding};
+ghost use Rattle.leamugi_numbers.specs.Numbers.{five, readNumbers, typeNumbers, entryNumbers};
+ghost use Rattle.leamugi_numbers.specs.Endings.{saidNumbers};
+ghost use Rattle.leamugi.specs.Calls.{lentRead, lengthOf, reportedNumbers, reportOf};
 
 // Reads bytes as a BTF. Answers document 01's number 0 to 3 and says beside it: 0, where types and strings begin and how
 // long they are, and the last id; 1, the id of the first fault; 3, the entries that the table needs.
@@ -46,8 +45,8 @@ pub extern "C" fn leamugi_type(
     id: u32,
     said: &mut [u64],
 ) -> u32
-    ensures number { λ r. ⌜ r ≡ typeNumbers (tabView (now (btf .entry)) (now (table .entry)) (btfOf (now (read .entry)))) id .number ⌝ }
-    ensures said { λ _. ⌜ now (said .exit) ≡ sets (now (said .entry)) 0 (five (typeNumbers (tabView (now (btf .entry)) (now (table .entry)) (btfOf (now (read .entry)))) id)) ⌝ }
+    ensures number { λ r. ⌜ r ≡ typeNumbers (lentRead btf table read) id .number ⌝ }
+    ensures said { λ _. ⌜ now (said .exit) ≡ sets (now (said .entry)) 0 (five (typeNumbers (lentRead btf table read) id)) ⌝ }
 {
     let found = type_numbers(btf, table, btf_from(read), id);
     put_five(said, found);
@@ -65,8 +64,8 @@ pub extern "C" fn leamugi_entry(
     k: u32,
     said: &mut [u64],
 ) -> u32
-    ensures number { λ r. ⌜ r ≡ entryNumbers (tabView (now (btf .entry)) (now (table .entry)) (btfOf (now (read .entry)))) id k .number ⌝ }
-    ensures said { λ _. ⌜ now (said .exit) ≡ sets (now (said .entry)) 0 (five (entryNumbers (tabView (now (btf .entry)) (now (table .entry)) (btfOf (now (read .entry)))) id k)) ⌝ }
+    ensures number { λ r. ⌜ r ≡ entryNumbers (lentRead btf table read) id k .number ⌝ }
+    ensures said { λ _. ⌜ now (said .exit) ≡ sets (now (said .entry)) 0 (five (entryNumbers (lentRead btf table read) id k)) ⌝ }
 {
     let entry = entry_numbers(btf, table, btf_from(read), id, k);
     put_five(said, entry);
@@ -88,9 +87,12 @@ pub extern "C" fn leamugi_relocate_read(
     records: &[u8],
     said: &mut [u64],
 ) -> u32
-    ensures number { λ r. ⌜ r ≡ saidNumbers (relocateRead (tabView (now (local .entry)) (now (ltable .entry)) (btfOf (now (lread .entry)))) (tabView (now (target .entry)) (now (ttable .entry)) (btfOf (now (tread .entry)))) (now (insns .entry)) section (now (records .entry)) .said) .number ⌝ }
-    ensures insns { λ _. ⌜ now (insns .exit) ≡ relocateRead (tabView (now (local .entry)) (now (ltable .entry)) (btfOf (now (lread .entry)))) (tabView (now (target .entry)) (now (ttable .entry)) (btfOf (now (tread .entry)))) (now (insns .entry)) section (now (records .entry)) .insns ⌝ }
-    ensures said { λ _. ⌜ now (said .exit) ≡ sets (now (said .entry)) 0 (five (saidNumbers (relocateRead (tabView (now (local .entry)) (now (ltable .entry)) (btfOf (now (lread .entry)))) (tabView (now (target .entry)) (now (ttable .entry)) (btfOf (now (tread .entry)))) (now (insns .entry)) section (now (records .entry)) .said))) ⌝ }
+    ensures number { λ r. ⌜ r ≡ saidNumbers
+        (relocateRead (lentRead local ltable lread) (lentRead target ttable tread) (now (insns .entry)) section (now (records .entry)) .said) .number ⌝ }
+    ensures insns { λ _. ⌜ now (insns .exit) ≡ relocateRead (lentRead local ltable lread) (lentRead target ttable tread) (now (insns .entry)) section
+        (now (records .entry)) .insns ⌝ }
+    ensures said { λ _. ⌜ now (said .exit) ≡ sets (now (said .entry)) 0 (five (saidNumbers
+        (relocateRead (lentRead local ltable lread) (lentRead target ttable tread) (now (insns .entry)) section (now (records .entry)) .said))) ⌝ }
 {
     let s = relocate_read(
         local,
@@ -142,10 +144,14 @@ pub extern "C" fn leamugi_relocate_reported(
     said: &mut [u64],
     out: &mut [u8],
 ) -> u32
-    ensures number { λ r. ⌜ r ≡ saidNumbers (relocateRead (tabView (now (local .entry)) (now (ltable .entry)) (btfOf (now (lread .entry)))) (tabView (now (target .entry)) (now (ttable .entry)) (btfOf (now (tread .entry)))) (now (insns .entry)) section (now (records .entry)) .said) .number ⌝ }
-    ensures insns { λ _. ⌜ now (insns .exit) ≡ relocateRead (tabView (now (local .entry)) (now (ltable .entry)) (btfOf (now (lread .entry)))) (tabView (now (target .entry)) (now (ttable .entry)) (btfOf (now (tread .entry)))) (now (insns .entry)) section (now (records .entry)) .insns ⌝ }
-    ensures said { λ _. ⌜ now (said .exit) ≡ sets (now (said .entry)) 0 (five (reportedNumbers (saidNumbers (relocateRead (tabView (now (local .entry)) (now (ltable .entry)) (btfOf (now (lread .entry)))) (tabView (now (target .entry)) (now (ttable .entry)) (btfOf (now (tread .entry)))) (now (insns .entry)) section (now (records .entry)) .said)) (lengthOf (reported (reportOf (tabView (now (local .entry)) (now (ltable .entry)) (btfOf (now (lread .entry)))) (tabView (now (target .entry)) (now (ttable .entry)) (btfOf (now (tread .entry)))) (now (insns .entry)) section (now (records .entry))) (now (out .entry)))))) ⌝ }
-    ensures report { λ _. ⌜ now (out .exit) ≡ holding (reportOf (tabView (now (local .entry)) (now (ltable .entry)) (btfOf (now (lread .entry)))) (tabView (now (target .entry)) (now (ttable .entry)) (btfOf (now (tread .entry)))) (now (insns .entry)) section (now (records .entry))) (now (out .entry)) ⌝ }
+    ensures number { λ r. ⌜ r ≡ saidNumbers
+        (relocateRead (lentRead local ltable lread) (lentRead target ttable tread) (now (insns .entry)) section (now (records .entry)) .said) .number ⌝ }
+    ensures insns { λ _. ⌜ now (insns .exit) ≡ relocateRead (lentRead local ltable lread) (lentRead target ttable tread) (now (insns .entry)) section
+        (now (records .entry)) .insns ⌝ }
+    ensures said { λ _. ⌜ now (said .exit) ≡ sets (now (said .entry)) 0
+        (reportedFive (lentRead local ltable lread) (lentRead target ttable tread) (now (insns .entry)) section (now (records .entry)) (now (out .entry))) ⌝ }
+    ensures report { λ _. ⌜ now (out .exit) ≡ holding
+        (reportOf (lentRead local ltable lread) (lentRead target ttable tread) (now (insns .entry)) section (now (records .entry))) (now (out .entry)) ⌝ }
 {
     let l = btf_from(lread);
     let t = btf_from(tread);

@@ -7,15 +7,16 @@ use mathlib.Core.List.{List, [], _∷_, _++_}
 use mathlib.Core.Option.{Option, none, some}
 use lib.ListN.{length, getD}
 use lib.Dec.{leb, eqb, ltb}
-use Rattle.rules.specs.Kinds.{ARRAY, STRUCT, isComposite, isEnum, isField, isType}
+use Rattle.rules.specs.Kinds.{isComposite, isEnum, isField, isType}
+use Rattle.btf_kinds.specs.Names.{ARRAY, STRUCT}
 use Rattle.rules.specs.Limits.{maxParts, numberLimit}
-use Rattle.kinds.specs.Types.{Ty}
-use Rattle.view.specs.View.{View}
+use Rattle.btf_kinds.specs.Types.{Ty}
+use Rattle.btf_view.specs.View.{View}
 use Rattle.rules.specs.declared.Accessor.{Accessor}
 use Rattle.rules.specs.declared.Step.{Step}
 use Rattle.rules.specs.declared.Step.the-variants.{By, Within}
 use Rattle.rules.specs.declared.Refusal.the-variants.{BadAccess, IndexTooBig, WrongKind, TooManyParts}
-use Rattle.rules.specs.Fields.{memberBits, entryAt}
+use Rattle.rules.specs.Fields.{memberBits, nthEntry}
 use Rattle.rules.specs.Refusal.{Reply, ok, refused, bind, bitOffset}
 use Rattle.rules.specs.Types.{resolve, resolved, sizeOf, sized}
 
@@ -87,9 +88,9 @@ pub record Walk : Type 0 where
   pub bits : ℕ
 
 -- The last accessor; a path always has its first index.
-unfoldable pub lastOf : Accessor → List Accessor → Accessor
-lastOf a [] = a
-lastOf a (b ∷ bs) = lastOf b bs
+unfoldable pub lastFrom : Accessor → List Accessor → Accessor
+lastFrom a [] = a
+lastFrom a (b ∷ bs) = lastFrom b bs
 
 -- Stands before any accessor
 abbrev pub nowhere : Accessor
@@ -97,7 +98,7 @@ nowhere = element 0 0
 
 -- The accessor that a path ends with
 abbrev pub last : List Accessor → Accessor
-last path = lastOf nowhere path
+last path = lastFrom nowhere path
 
 -- FIRST ODDITY: the local walk's first index counts the type's bytes, though the sum is of bits. (The target's counts bits.)
 unfoldable pub localFirstBits : ℕ → ℕ → ℕ
@@ -116,7 +117,7 @@ pub data Access : Type 0 where
 -- To the member k of the type i (t): its bits count, and where it has a name it is an accessor.
 unfoldable pub localMember : ℕ → ℕ → ℕ → Ty → Reply Step
 localMember bits k i t =
-    let m = entryAt t k in
+    let m = nthEntry t k in
     cond (leb (length (t .entries)) k) (refused (IndexTooBig k (length (t .entries))))
     (bind (bitOffset (bits + memberBits t m)) (λ b. ok (cond (eqb (m .name) 0) (Within (m .typ) b) (By (member i k) (m .typ) b))))
 

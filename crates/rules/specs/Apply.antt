@@ -8,8 +8,8 @@ use mathlib.Core.Option.{Option, none, some}
 use lib.ListN.{length, getD, take, drop, set}
 use lib.Seq.{sets}
 use lib.Dec.{eqb, ltb}
-use Rattle.words.specs.Num.{little}
-use Rattle.words.specs.Put.{putAt}
+use Rattle.word_read.specs.Num.{little}
+use Rattle.word_read.specs.Put.{putAt}
 use Rattle.rules.specs.declared.Refusal.{Refusal}
 use Rattle.rules.specs.declared.Refusal.the-variants.{NoSuccessor, BadInstruction}
 use Rattle.rules.specs.declared.Resize.{Resize}
@@ -17,6 +17,7 @@ use Rattle.rules.specs.declared.Resize.the-variants.{Same, OneSided, Unl
 use Rattle.rules.specs.declared.Write.{Write}
 use Rattle.rules.specs.declared.Write.the-variants.{Put, Poison}
 use Rattle.rules.specs.Limits.{maxOff}
+use Rattle.rules.specs.Insn.{LD, LDX, ST, STX, ALU, ALU64, W, H, B, DW, LD-IMM64, CALL}
 
 -- The fields of an instruction
 
@@ -30,13 +31,13 @@ class c = c % 8
 
 -- ALU and ALU64; LDX, ST and STX; LD
 abbrev pub isAlu : ℕ → Bool
-isAlu c = eqb c 4 || eqb c 7
+isAlu c = eqb c ALU || eqb c ALU64
 
 abbrev pub isMemory : ℕ → Bool
-isMemory c = eqb c 1 || eqb c 2 || eqb c 3
+isMemory c = eqb c LDX || eqb c ST || eqb c STX
 
 abbrev pub isWide : ℕ → Bool
-isWide c = eqb c 0
+isWide c = eqb c LD
 
 -- The high half of byte 1
 unfoldable pub sourceRegister : List ℕ → ℕ
@@ -63,7 +64,7 @@ high n = n / 2 ^ 32
 
 -- A call of a helper that does not exist, imm 0xbad2310
 unfoldable pub poisoned : List ℕ → List ℕ
-poisoned xs = sets xs 0 (0x85 ∷ 0 ∷ 0 ∷ 0 ∷ 0x10 ∷ 0x23 ∷ 0xad ∷ 0x0b ∷ [])
+poisoned xs = sets xs 0 (CALL ∷ 0 ∷ 0 ∷ 0 ∷ 0x10 ∷ 0x23 ∷ 0xad ∷ 0x0b ∷ [])
 
 -- The patch
 
@@ -82,7 +83,7 @@ alsoNext change xs i = cond (hasSlot xs 1) (done (take 8 xs ++ change (drop 8 xs
 
 -- No value: poison, of the successor too where the code was 0x18
 unfoldable pub poison : List ℕ → ℕ → Patch
-poison xs i = cond (eqb (code xs) 0x18) (alsoNext poisoned (poisoned xs) i) (done (poisoned xs))
+poison xs i = cond (eqb (code xs) LD-IMM64) (alsoNext poisoned (poisoned xs) i) (done (poisoned xs))
 
 -- ALU and ALU64, classes 4 and 7: an immediate operand
 unfoldable pub patchAlu : List ℕ → ℕ → Patch
@@ -90,22 +91,22 @@ patchAlu xs n = cond (eqb (sourceRegister xs) 0) (done (withImm xs (low n))) (st
 
 -- The size bits of a load or store
 unfoldable pub sizeBits : ℕ → Option ℕ
-sizeBits s = cond (eqb s 1) (some 0x10) (cond (eqb s 2) (some 0x08) (cond (eqb s 4) (some 0) (cond (eqb s 8) (some 0x18) none)))
+sizeBits s = cond (eqb s 1) (some B) (cond (eqb s 2) (some H) (cond (eqb s 4) (some W) (cond (eqb s 8) (some DW) none)))
 
 -- Other size bits; mode and class stay.
 unfoldable pub withSize : List ℕ → ℕ → List ℕ
 withSize xs b = withCode xs (code xs / 32 * 32 + b + code xs % 8)
 
-abbrev pub sized : List ℕ → Option ℕ → Patch
-sized xs none = stopped (BadInstruction 4) xs
-sized xs (some b) = done (withSize xs b)
+abbrev pub resized : List ℕ → Option ℕ → Patch
+resized xs none = stopped (BadInstruction 4) xs
+resized xs (some b) = done (withSize xs b)
 
 -- A load or store whose off is written already, and the size that it gets
 unfoldable pub resize : List ℕ → Resize → Patch
 resize xs Same = done xs
 resize xs OneSided = stopped (BadInstruction 6) xs
 resize xs Unlike = stopped (BadInstruction 3) xs
-resize xs (To s) = sized xs (sizeBits s)
+resize xs (To s) = resized xs (sizeBits s)
 
 -- LDX, ST and STX, classes 1 to 3: the offset, then the size
 unfoldable pub patchMemory : List ℕ → ℕ → Resize → Patch

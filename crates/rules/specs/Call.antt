@@ -4,12 +4,12 @@ use mathlib.Core.Bool.{Bool, true, false, cond, _&&_}
 use mathlib.Core.List.{List, [], _∷_}
 use lib.ListN.{length}
 use lib.Dec.{eqb, leb}
-use Rattle.words.specs.Num.{word}
-use Rattle.btf.specs.declared.Btf.{Btf}
-use Rattle.btf.specs.declared.Answer.{Answer as Reading}
-use Rattle.btf.specs.declared.Answer.the-variants.{Read, Bad, Over, TooShort}
-use Rattle.btf.specs.Table.{decode, tabled}
-use Rattle.view.specs.View.{View, docView}
+use Rattle.word_read.specs.Num.{word}
+use Rattle.btf_accept.specs.declared.Btf.{Btf}
+use Rattle.btf_accept.specs.declared.Reading.{Reading}
+use Rattle.btf_accept.specs.declared.Reading.the-variants.{Read, NoBtf, TooBig, TooShort}
+use Rattle.btf_accept.specs.Table.{decode, tabled}
+use Rattle.btf_view.specs.View.{View, docView}
 use Rattle.rules.specs.declared.Record.{Record}
 use Rattle.rules.specs.declared.Answer.{Answer}
 use Rattle.rules.specs.declared.Answer.the-variants.{Applied, Poisoned, Refused}
@@ -89,8 +89,8 @@ shaped xs section rs =
 -- What follows on a BTF that was read, or how the call ends
 abbrev pub readThen : Which → List ℕ → Reading → (Btf → Effect) → Effect
 readThen w xs (Read b) next = next b
-readThen w xs (Bad i) next = unrun (BadBtf w i) xs
-readThen w xs Over next = unrun (OverLimit w) xs
+readThen w xs (NoBtf i) next = unrun (BadBtf w i) xs
+readThen w xs TooBig next = unrun (OverLimit w) xs
 readThen w xs (TooShort n) next = unrun (TableShort w n) xs
 
 -- The call on bytes: local BTF and its table's room, target BTF and its table's room, instructions, section offset, records
@@ -110,8 +110,8 @@ localTable l table xs section rs = cond (shaped xs section rs) (tabled l table) 
 
 abbrev pub isRead : Reading → Bool
 isRead (Read b) = true
-isRead (Bad i) = false
-isRead Over = false
+isRead (NoBtf i) = false
+isRead TooBig = false
 isRead (TooShort n) = false
 
 unfoldable pub targetTable : List ℕ → ℕ → List ℕ → List ℕ → List ℕ → ℕ → List ℕ → List ℕ

@@ -3,9 +3,9 @@ use Prim.Native.Nat.{ℕ, _+_, _*_, _/_, _%_, _^_}
 use mathlib.Core.Bool.{Bool, cond}
 use lib.ListN.{getD}
 use lib.Dec.{eqb}
-use Rattle.kinds.specs.declared.Entry.{Entry}
-use Rattle.kinds.specs.Types.{Ty}
-use Rattle.view.specs.Places.{noEntry}
+use Rattle.btf_kinds.specs.declared.Entry.{Entry}
+use Rattle.btf_kinds.specs.Types.{Ty}
+use Rattle.btf_view.specs.Places.{noEntry}
 
 -- The kind flag
 abbrev pub kflag : Ty → Bool
@@ -30,5 +30,5 @@ abbrev pub rawValue : Entry → ℕ
 rawValue e = e .low + 2 ^ 32 * e .high
 
 -- The entry at an index: a member, a variant, a parameter
-abbrev pub entryAt : Ty → ℕ → Entry
-entryAt t k = getD (t .entries) k noEntry
+abbrev pub nthEntry : Ty → ℕ → Entry
+nthEntry t k = getD (t .entries) k noEntry

@@ -7,11 +7,10 @@ pub mod Types
 pub mod Access
 pub mod Value
 pub mod Matching
+pub mod Insn
 pub mod Apply
 pub mod Record
 pub mod List
 pub mod Ascii
 pub mod Report
-pub mod Turns
 pub mod Call
-pub mod ReportLaws

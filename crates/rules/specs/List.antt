@@ -1,7 +1,7 @@
 -- The list of records equals its records one by one, up to the first refusal (document 01, sections 3 and 11).
 use Prim.Native.Nat.{ℕ, suc}
 use mathlib.Core.List.{List, [], _∷_}
-use Rattle.view.specs.View.{View}
+use Rattle.btf_view.specs.View.{View}
 use Rattle.rules.specs.declared.Record.{Record}
 use Rattle.rules.specs.declared.Answer.{Answer}
 use Rattle.rules.specs.declared.Answer.the-variants.{Applied, Poisoned, Refused}

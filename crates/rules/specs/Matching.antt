@@ -8,11 +8,12 @@ use mathlib.Core.List.{List, [], _∷_}
 use mathlib.Core.Option.{Option, none, some}
 use lib.ListN.{length}
 use lib.Dec.{leb, eqb}
-use Rattle.rules.specs.Kinds.{ARRAY, STRUCT, isComposite, isEnum, enumExists}
+use Rattle.rules.specs.Kinds.{isComposite, isEnum, enumExists}
+use Rattle.btf_kinds.specs.Names.{ARRAY, STRUCT}
 use Rattle.rules.specs.Limits.{maxSpecLen, maxLevels}
-use Rattle.kinds.specs.declared.Entry.{Entry}
-use Rattle.kinds.specs.Types.{Ty}
-use Rattle.view.specs.View.{View}
+use Rattle.btf_kinds.specs.declared.Entry.{Entry}
+use Rattle.btf_kinds.specs.Types.{Ty}
+use Rattle.btf_view.specs.View.{View}
 use Rattle.rules.specs.declared.Resolved.{Resolved}
 use Rattle.rules.specs.declared.Resolved.the-variants.{At, Endless}
 use Rattle.rules.specs.declared.Compat.{Compat}
@@ -27,7 +28,7 @@ use Rattle.rules.specs.declared.Search.the-variants.{Found, Missing, Fai
 use Rattle.rules.specs.declared.Event.{Event}
 use Rattle.rules.specs.declared.Event.the-variants.{Nothing, Matched, Bad}
 use Rattle.rules.specs.declared.Refusal.the-variants.{MaximumNesting, Unresolved, TooDeep}
-use Rattle.rules.specs.Fields.{memberBits, entryAt}
+use Rattle.rules.specs.Fields.{memberBits, nthEntry}
 use Rattle.rules.specs.Refusal.{Reply, ok, refused, bind, bitOffset}
 use Rattle.rules.specs.Types.{resolve, resolved, isEmpty, sameText, sameFlavourless, typesCompatible, fieldsCompatible}
 use Rattle.rules.specs.Access.{member, element, nowhere, elementBits, Access, whole, variant, path}
@@ -171,7 +172,7 @@ targetElementAt typ c s k (At j) = targetElement typ c s k (typ j) (typ (s .last
 -- One accessor of the local path
 unfoldable pub targetStep : View → View → ℕ → Target → Accessor → Search
 targetStep L T c s a =
-    cond (a .named) (targetMember L T c s (entryAt (L .typ (a .typ)) (a .index)))
+    cond (a .named) (targetMember L T c s (nthEntry (L .typ (a .typ)) (a .index)))
     (targetElementAt (T .typ) c s (a .index) (resolve (T .typ) (s .typ)))
 
 -- The accessors after the first
@@ -208,5 +209,5 @@ fieldEvent typ k mine (Found s) = valued mine (s .bits) (fieldValue typ k (s .la
 -- What candidate i gives to a record of kind k on the local type id, given what it accesses and its local value
 unfoldable pub event : View → View → ℕ → ℕ → Access → Reply Value → ℕ → Event
 event L T k id whole mine i = typeEvent (typesCompatible (L .typ) (T .typ) id i) (typeValue (T .typ) k i)
-event L T k id (variant e x) mine i = enumEventAt T k (L .text (entryAt (L .typ e) x .name)) (resolve (T .typ) i)
+event L T k id (variant e x) mine i = enumEventAt T k (L .text (nthEntry (L .typ e) x .name)) (resolve (T .typ) i)
 event L T k id (path steps bits) mine i = fieldEvent (T .typ) k mine (fieldMatch L T steps i)

@@ -3,8 +3,8 @@ use Prim.Native.Nat.{ℕ, zero, suc, _-_, _/_}
 use mathlib.Core.Bool.{Bool, true, false, cond, _&&_, _||_, not}
 use mathlib.Core.List.{List, [], _∷_}
 use lib.Dec.{leb, eqb, ltb}
-use Rattle.kinds.specs.Types.{Ty}
-use Rattle.view.specs.View.{View}
+use Rattle.btf_kinds.specs.Types.{Ty}
+use Rattle.btf_view.specs.View.{View}
 use Rattle.rules.specs.declared.Refusal.{Refusal}
 use Rattle.rules.specs.declared.Refusal.the-variants.{KindTooBig, NotInFunction, Conflict, NoMatch, Unresolved}
 use Rattle.rules.specs.declared.Typing.{Typing}
@@ -23,7 +23,8 @@ use Rattle.rules.specs.declared.Write.the-variants.{Put, Poison}
 use Rattle.rules.specs.declared.Record.{Record}
 use Rattle.rules.specs.declared.Answer.{Answer}
 use Rattle.rules.specs.declared.Answer.the-variants.{Applied, Poisoned, Refused}
-use Rattle.rules.specs.Kinds.{INT, PTR, typeIdLocal, typeIdTarget, typeSize, enumValue, asksExistence}
+use Rattle.rules.specs.Kinds.{typeIdLocal, typeIdTarget, typeSize, enumValue, asksExistence}
+use Rattle.btf_kinds.specs.Names.{INT, PTR}
 use Rattle.rules.specs.Fields.{intSigned}
 use Rattle.rules.specs.Refusal.{Reply, ok, refused, bind, number, returned}
 use Rattle.rules.specs.declared.Resolved.{Resolved}
@@ -98,14 +99,14 @@ resizable l t =
     cond (eqb (t .kind) (l .kind)) (cond (eqb (l .kind) PTR) true (cond (eqb (l .kind) INT) (not (intSigned l) && not (intSigned t)) false)) false
 
 -- A size of s bytes, between a local and a target type, where both are there
-abbrev pub between : (ℕ → Ty) → (ℕ → Ty) → ℕ → Typing → Typing → Resize
-between L T s Untyped y = OneSided
-between L T s (Typed a) Untyped = OneSided
-between L T s (Typed a) (Typed b) = cond (resizable (L a) (T b)) (To s) Unlike
+abbrev pub resizeBetween : (ℕ → Ty) → (ℕ → Ty) → ℕ → Typing → Typing → Resize
+resizeBetween L T s Untyped y = OneSided
+resizeBetween L T s (Typed a) Untyped = OneSided
+resizeBetween L T s (Typed a) (Typed b) = cond (resizable (L a) (T b)) (To s) Unlike
 
 -- The change of size from the local value to the target's
 unfoldable pub resizing : (ℕ → Ty) → (ℕ → Ty) → Value → Value → Resize
-resizing L T mine theirs = cond (eqb (mine .size) (theirs .size)) Same (between L T (theirs .size) (mine .typ) (theirs .typ))
+resizing L T mine theirs = cond (eqb (mine .size) (theirs .size)) Same (resizeBetween L T (theirs .size) (mine .typ) (theirs .typ))
 
 -- What is written for a local value and the target's, if it has one
 abbrev pub writing : (ℕ → Ty) → (ℕ → Ty) → Value → Worth → Write
@@ -142,10 +143,10 @@ relocated L T r = bind (accessed L r) (compute L T r)
 -- The answer
 
 -- Document 01's number of an answer to the record with this index, and what it returns: the value, nothing for poison
-unfoldable pub said : ℕ → Answer → List ℕ
-said n (Applied v) = 0 ∷ v ∷ []
-said n Poisoned = 0 ∷ []
-said n (Refused r) = number r ∷ returned n r
+unfoldable pub answerNumbers : ℕ → Answer → List ℕ
+answerNumbers n (Applied v) = 0 ∷ v ∷ []
+answerNumbers n Poisoned = 0 ∷ []
+answerNumbers n (Refused r) = number r ∷ returned n r
 
 -- The answer, and the instructions afterwards
 pub record Outcome : Type 0 where

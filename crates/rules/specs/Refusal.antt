@@ -4,7 +4,8 @@ use mathlib.Core.Bool.{cond}
 use mathlib.Core.List.{List, [], _∷_}
 use lib.Dec.{ltb}
 use Rattle.rules.specs.declared.Refusal.{Refusal}
-use Rattle.rules.specs.declared.Refusal.the-variants.{KindTooBig, NotInFunction, NoSuccessor, BadAccess, IndexTooBig, WrongKind, Conflict, MaximumNesting, BadInstruction, NoMatch, Unresolved, TooManyParts, BitsTooBig, TooDeep}
+use Rattle.rules.specs.declared.Refusal.the-variants.{KindTooBig, NotInFunction, NoSuccessor, BadAccess, IndexTooBig, WrongKind, Conflict}
+use Rattle.rules.specs.declared.Refusal.the-variants.{MaximumNesting, BadInstruction, NoMatch, Unresolved, TooManyParts, BitsTooBig, TooDeep}
 use Rattle.rules.specs.Limits.{bitLimit}
 
 -- Document 01's number of a refusal

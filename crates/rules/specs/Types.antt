@@ -5,12 +5,13 @@ use mathlib.Core.List.{List, [], _∷_}
 use mathlib.Core.Option.{Option, none, some}
 use lib.ListN.{length, getD}
 use lib.Dec.{eqb, ltb}
-use Rattle.rules.specs.Kinds.{VOID, INT, PTR, ARRAY, FWD, FUNC-PROTO, FLOAT, isModifier, isComposite, isEnum, sizedByRef, alike}
+use Rattle.rules.specs.Kinds.{isModifier, isComposite, isEnum, sizedByRef, alike}
+use Rattle.btf_kinds.specs.Names.{VOID, INT, PTR, ARRAY, FWD, FUNC-PROTO, FLOAT}
 use Rattle.rules.specs.Limits.{maxResolveDepth, maxSteps, sizeLimit}
-use Rattle.kinds.specs.declared.Entry.{Entry}
-use Rattle.kinds.specs.Kinds.{hasSize}
-use Rattle.kinds.specs.Types.{Ty}
-use Rattle.view.specs.View.{View}
+use Rattle.btf_kinds.specs.declared.Entry.{Entry}
+use Rattle.btf_kinds.specs.Kinds.{hasSize}
+use Rattle.btf_kinds.specs.Types.{Ty}
+use Rattle.btf_view.specs.View.{View}
 use Rattle.rules.specs.declared.Resolved.{Resolved}
 use Rattle.rules.specs.declared.Resolved.the-variants.{At, Endless}
 use Rattle.rules.specs.declared.Why.the-variants.{ChainTooLong, KindWithoutSize, ProductTooBig}

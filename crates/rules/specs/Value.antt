@@ -3,16 +3,17 @@ use Prim.Native.Nat.{ℕ, zero, suc, _+_, _-_, _*_, _/_}
 use mathlib.Core.Bool.{cond, _&&_}
 use mathlib.Core.Option.{Option, none, some}
 use lib.Dec.{leb, eqb}
-use Rattle.rules.specs.Kinds.{INT, ENUM, isEnum, fieldByteOffset, fieldByteSize, fieldExists, fieldSigned, fieldLShift, typeIdTarget, typeExists}
-use Rattle.words.specs.Sign.{extended}
-use Rattle.kinds.specs.declared.Entry.{Entry}
-use Rattle.kinds.specs.Types.{Ty}
+use Rattle.rules.specs.Kinds.{isEnum, fieldByteOffset, fieldByteSize, fieldExists, fieldSigned, fieldLShift, typeIdTarget, typeExists}
+use Rattle.btf_kinds.specs.Names.{INT, ENUM}
+use Rattle.word_read.specs.Sign.{extended}
+use Rattle.btf_kinds.specs.declared.Entry.{Entry}
+use Rattle.btf_kinds.specs.Types.{Ty}
 use Rattle.rules.specs.declared.Accessor.{Accessor}
 use Rattle.rules.specs.declared.Typing.the-variants.{Typed, Untyped}
 use Rattle.rules.specs.declared.Value.{Value}
 use Rattle.rules.specs.declared.Load.{Load}
 use Rattle.rules.specs.declared.Refusal.the-variants.{Unresolved, WrongKind}
-use Rattle.rules.specs.Fields.{kflag, intSigned, bitfieldSize, rawValue, entryAt}
+use Rattle.rules.specs.Fields.{kflag, intSigned, bitfieldSize, rawValue, nthEntry}
 use Rattle.rules.specs.Refusal.{Reply, ok, refused, bind}
 use Rattle.rules.specs.Types.{resolve, resolved, sizeOf, sized, ownSize}
 use Rattle.rules.specs.Access.{Access, whole, variant, path, last}
@@ -88,7 +89,7 @@ elementValue typ k bits j =
 -- The value of a field, by the last accessor of its path and its bit offset
 unfoldable pub fieldValue : (ℕ → Ty) → ℕ → Accessor → ℕ → Reply Value
 fieldValue typ k a bits =
-    let m = entryAt (typ (a .typ)) (a .index) in
+    let m = nthEntry (typ (a .typ)) (a .index) in
     let w = bitfieldSize (typ (a .typ)) m in
     cond (eqb k fieldExists) (ok (plain 1))
     (cond (a .named) (resolved (resolve typ (m .typ)) (memberValue typ k bits w)) (elementValue typ k bits (a .typ)))

@@ -1,0 +1,5 @@
+pub mod Limits
+pub mod Sections
+pub mod Accept
+pub mod Table
+pub mod Shape

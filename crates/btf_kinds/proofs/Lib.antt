@@ -1,0 +1,6 @@
+pub mod Bits
+pub mod FieldLaws
+pub mod Keys
+pub mod Others
+pub mod Laws
+pub mod RowLaws

@@ -1,0 +1,4 @@
+pub mod Text
+pub mod View
+pub mod Places
+pub mod Lent

@@ -1,4 +1,0 @@
-pub mod Enums
-pub mod Events
-pub mod Folding
-pub mod Keeping

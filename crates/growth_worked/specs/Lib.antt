@@ -1,5 +1,0 @@
-pub mod Make
-pub mod Worked
-pub mod Variants
-pub mod Computed
-pub mod Met

@@ -1,3 +1,0 @@
-pub mod Kept
-pub mod KeptLaws
-pub mod Order

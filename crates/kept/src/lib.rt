@@ -1,1 +1,0 @@
-// What a patch leaves as it was, and two patches that do not meet. Definitions and theorems only: see specs/.

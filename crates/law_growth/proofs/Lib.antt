@@ -1,0 +1,9 @@
+pub mod Types
+pub mod Values
+pub mod Matching
+pub mod Events
+pub mod Fold
+pub mod One
+pub mod Whole
+pub mod Calls
+pub mod Proved

@@ -1,0 +1,6 @@
+pub mod KeptLaws
+pub mod Apart
+pub mod Touching
+pub mod Two
+pub mod Lists
+pub mod Calls

@@ -1,0 +1,5 @@
+pub mod Enums
+pub mod Events
+pub mod Folding
+pub mod Keeping
+pub mod Matches

@@ -1,9 +1,0 @@
-pub mod Good
-pub mod Reach
-pub mod Step
-pub mod Tests
-pub mod TypeLaws
-pub mod ReachLaws
-pub mod PairLaws
-pub mod StepLaws
-pub mod Laws

@@ -1,5 +1,0 @@
-pub mod Make
-pub mod Chains
-pub mod Names
-pub mod TypeChecks
-pub mod FieldChecks

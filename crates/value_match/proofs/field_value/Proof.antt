@@ -1,0 +1,31 @@
+-- `value_match::field_value` meets its contract.
+-- Assumes nothing.
+use mathlib.Core.Path.{sym}
+use borrow.Author.Tests.{eq-eqb, ne-eqb}
+use Rattle.rules.specs.Value.{fieldValue}
+use borrow.Author.Needs.{needs}
+use Rattle.value_match.proofs.field_value.Statement.{statement}
+use Rattle.value_match.proofs.field_value.Tie as tie
+
+returns : tie.Need-returns
+unfolding fieldValue
+returns c = sym (rw (eq-eqb _ _ (c .before .if1 .taken), ← (c .plainly .ensures)))
+
+returns-2 : tie.Need-returns-2
+unfolding fieldValue
+returns-2 c = sym (rw (ne-eqb _ _ (c .before .before .if1 .left), (c .before .if2 .taken), ← (c .named-value .ensures)))
+
+returns-3 : tie.Need-returns-3
+unfolding fieldValue
+returns-3 c = sym (rw (ne-eqb _ _ (c .before .before .if1 .left), (c .before .if2 .left), ← (c .element-value .ensures)))
+
+pub field-value-spec : {M : Type 1} → statement M
+field-value-spec =
+    tie.close
+    (tie.spec
+    (λ c κs. search needs)
+    returns
+    (λ c κs. search needs)
+    returns-2
+    (λ c κs. search needs)
+    returns-3)

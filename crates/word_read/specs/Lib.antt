@@ -1,0 +1,4 @@
+pub mod Num
+pub mod Put
+pub mod Sign
+pub mod Bits

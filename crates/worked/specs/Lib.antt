@@ -1,4 +1,0 @@
-pub mod Make
-pub mod Starred
-pub mod Report
-pub mod Examples

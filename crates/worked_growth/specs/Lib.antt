@@ -1,0 +1,3 @@
+pub mod Make
+pub mod Worked
+pub mod Variants

@@ -1,0 +1,3 @@
+pub mod Make
+pub mod Starred
+pub mod Report

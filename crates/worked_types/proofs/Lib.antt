@@ -1,0 +1,5 @@
+pub mod Make
+pub mod Chains
+pub mod FieldChecks
+pub mod Names
+pub mod TypeChecks
