@@ -41,7 +41,7 @@ fn put_size_bits(insns: &mut [u8], bits: u8) -> Patched
 
 // The size that a load or store gets.
 fn put_size(insns: &mut [u8], size: u32) -> Patched
-    ensures { λ r. ⌜ patchOf r (now (insns .exit)) ≡ apply.sized (now (insns .entry)) (apply.sizeBits size) ⌝ }
+    ensures { λ r. ⌜ patchOf r (now (insns .exit)) ≡ apply.resized (now (insns .entry)) (apply.sizeBits size) ⌝ }
 {
     match size {
         1 => put_size_bits(insns, BPF_B),

@@ -33,7 +33,7 @@ readNumbers (TooShort n) = numbered 3 n 0 0 0 0
 unfoldable pub verdict : ℕ → Whole → Numbers
 verdict room (Accepted b) = cond (ltb (b .last) room) (readNumbers (Read b)) (numbered 3 (b .last + 1) 0 0 0 0)
 verdict room (Faulty i) = numbered 1 i 0 0 0 0
-verdict room TooBig = numbered 2 0 0 0 0 0
+verdict room Over = numbered 2 0 0 0 0 0
 
 -- The BTF that the five numbers of a reading stand for; 0 for one that is missing
 unfoldable pub btfOf : List ℕ → Btf
