@@ -1,4 +1,5 @@
 pub mod KeptLaws
+pub mod Refused
 pub mod Apart
 pub mod Touching
 pub mod Two

@@ -7,29 +7,9 @@ use Rattle.rules.specs.Apply.{patch, patchFront, patchClass, patchAlu, patchMem
 use Rattle.word_read.specs.Sign.{extended}
 use Rattle.rules.specs.Record.{resizable, resizing}
 use Rattle.word_read.specs.Put.{putAt}
-use Rattle.worked_rules.specs.Starred.{Starred}
+use Rattle.worked_rules.specs.Starred.{rows, Every}
 
-pub starred : Starred
+pub starred : Every rows
 unfolding parse numbers split part decimal digits memberValue bitfieldValue bitfieldLoad loadValue variantValue extended resizing resizable patch patchFront patchClass patchAlu patchMemory resize
     sizeBits withSize patchWide alsoNext withImm withOff withCode code sourceRegister putAt hasSize
-starred = record {
-  two-parts = refl;
-  plus = refl;
-  no-part = refl;
-  empty-part = refl;
-  narrow-offset = refl;
-  narrow-left = refl;
-  narrow-right = refl;
-  across-offset = refl;
-  across-size = refl;
-  across-left = refl;
-  across-right = refl;
-  immediate = refl;
-  register = refl;
-  wider = refl;
-  signs-differ = refl;
-  farthest = refl;
-  too-far = refl;
-  minus-one = refl;
-  unsigned-ones = refl;
-}
+starred = (refl, (refl, (refl, (refl, (refl, (refl, (refl, (refl, (refl, (refl, (refl, (refl, (refl, (refl, (refl, (refl, (refl, (refl, (refl, tt)))))))))))))))))))

@@ -22,24 +22,18 @@ loop-holds : tie.Need-loop-holds Inv-loop μ-loop
 loop-holds c = begin _ _ _ _ _ _ _
 
 loop-again : tie.Need-loop-again Inv-loop μ-loop
-loop-again c =
-    let at-put-applied = c .before .before in
-    let at-loop-test = at-put-applied .before .before in
-    let at-loop = at-loop-test .before in
-    let at-least = at-loop .before in
-    more _ _ _ _ _ _ _ (omega arith) (rw (at-least .least .ensures) at (at-loop-test .loop-test .taken)) (at-loop .loop .inv) (at-put-applied .put-applied .ensures)
+loop-again c = more _ _ _ _ _ _ _ (omega arith)
+    (rw (c .before .before .before .before .before .before .least .ensures) at (c .before .before .before .before .loop-test .taken))
+    (c .before .before .before .before .before .loop .inv) (c .before .before .put-applied .ensures)
 
 same-length : tie.Need-same-length Inv-loop μ-loop
 same-length c = stays (c .before .before .put-last .ensures) ∙ stays (c .before .before .before .before .before .loop .inv .wrote)
 
 returns : tie.Need-returns Inv-loop μ-loop
 unfolding reportSaid
-returns c =
-    let at-put-last = c .before .before in
-    let at-loop-test = at-put-last .before .before in
-    let at-loop = at-loop-test .before in
-    let at-least = at-loop .before in
-    end _ _ _ _ _ _ _ (omega arith) (rw (at-least .least .ensures) at (at-loop-test .loop-test .left)) (at-loop .loop .inv) (at-put-last .put-last .ensures)
+returns c = end _ _ _ _ _ _ _ (omega arith)
+    (rw (c .before .before .before .before .before .before .least .ensures) at (c .before .before .before .before .loop-test .left))
+    (c .before .before .before .before .before .loop .inv) (c .before .before .put-last .ensures)
 
 pub put-said-spec : {M : Type 1} → statement M
 put-said-spec =
