@@ -139,3 +139,43 @@ fn ended(local: &Btf<impl AsRef<[u8]>>, target: &Btf<impl AsRef<[u8]>>, records:
     };
     Err(Refused::Record { record: applied, type_id, type_name: local.name(type_id), candidate, why })
 }
+
+#[cfg(test)]
+mod tests {
+    use super::*;
+    use alloc::string::ToString;
+
+    /// What becomes of a call that says this number, over no types and no records.
+    fn said(number: u32) -> Result<u64, Refused> {
+        let empty = Btf::parse(EMPTY).expect("a BTF");
+        ended(&empty, &empty, &[], &ffi::Said { number, numbers: [3, 7, 2, 0, 0] })
+    }
+
+    #[test]
+    fn every_number_is_its_own_case() {
+        assert_eq!(said(0), Ok(3));
+        for number in (1..64).chain([u32::MAX]) {
+            let refused = said(number).expect_err("refused");
+            assert_eq!(refused.number(), number);
+            let known = match refused {
+                Refused::Record { .. } => (4..=17).contains(&number),
+                Refused::Misshapen => number == 18,
+                Refused::Unknown { applied, .. } => applied == 3 && !(4..=18).contains(&number),
+                Refused::Btf { .. } => false,
+            };
+            assert!(known, "{number}");
+        }
+        assert_eq!(said(19).unwrap_err().to_string(), "refusal 19, which this version does not know, after 3 records");
+    }
+
+    #[test]
+    fn every_reason_is_its_own_case() {
+        for number in 0..10 {
+            let reason = Reason::from_number(number);
+            assert_eq!(reason.number(), number);
+            assert_eq!(reason == Reason::Other(number), !(1..=6).contains(&number));
+        }
+        let Err(Refused::Record { why, .. }) = said(12) else { panic!("a record is refused") };
+        assert_eq!(why, Why::BadInstruction { reason: Reason::Other(7) });
+    }
+}
