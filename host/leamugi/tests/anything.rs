@@ -20,15 +20,15 @@ impl Drawn {
     }
 }
 
-/// The bytes with a few of them changed, and now and then some cut off or added.
+/// The bytes as they are, or with up to three of them changed; now and then some are cut off or added.
 fn damaged(whole: &[u8], drawn: &mut Drawn) -> Vec<u8> {
     let mut bytes = whole.to_vec();
-    for _ in 0..drawn.below(4) {
+    for _ in 0..drawn.below(8).saturating_sub(4) {
         let at = drawn.below(bytes.len());
         let value = [0, 1, 4, 0x7f, 0x80, 0xff, bytes[at].wrapping_add(1), drawn.next() as u8][drawn.below(8)];
         bytes[at] = value;
     }
-    match drawn.below(16) {
+    match drawn.below(32) {
         0 => bytes.truncate(drawn.below(whole.len())),
         1 => bytes.extend([drawn.next() as u8].repeat(drawn.below(40))),
         _ => {}
