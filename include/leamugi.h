@@ -15,8 +15,9 @@
  * describe memory that may be read (where not const: written), and what is not const overlaps nothing else that is handed in. A
  * pointer of length 0 is not looked at, but must not be null.
  *
- * Nothing is allocated, and nothing is kept between calls: calls on different buffers may run at once. A call takes less than 64 KiB
- * of stack (tests/c/stack.c measures it): a search takes up to 1.5 KiB for each unnamed level that it is in, of which 32 are carried.
+ * Nothing is allocated, and nothing is kept between calls: calls on different buffers may run at once. A call takes less than 48 KiB
+ * of stack, and tests/c/stack.c measures it: a relocation takes up to 38 KiB (of which 32 unnamed levels, the most that a search goes
+ * through, are 27), reading takes 5.
  *
  * Every call ends, but the time of a relocation has no small bound: a search goes through unnamed structs and unions within one
  * another, up to 32 levels, and the work can double with each. Who takes targets from strangers bounds the time.

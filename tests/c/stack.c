@@ -9,8 +9,8 @@
 
 #include "leamugi.h"
 
-enum { STACK = 1 << 20, PAINT = 0xa5, SAID_IN_THE_HEADER = 64 * 1024 };
-enum { INT = 1, PTR = 2, ARRAY = 3, STRUCT = 4, FUNC_PROTO = 13 };
+enum { STACK = 1 << 20, PAINT = 0xa5, SAID_IN_THE_HEADER = 48 * 1024 };
+enum { INT = 1, PTR = 2, STRUCT = 4, TYPEDEF = 8, FUNC_PROTO = 13 };
 
 /* A BTF in the making. */
 struct made {
@@ -153,7 +153,7 @@ static void unnamed(const char *what, int levels)
 	record(what, &local, &target, id, "0:0", LEAMUGI_FIELD_OFFSET);
 }
 
-/* Pointers, or prototypes that return and take one another, so deep. */
+/* Pointers to one another, or prototypes that take one another, so deep, under the name t. */
 static uint32_t nested(struct made *m, int steps, int prototypes)
 {
 	while (steps-- > 0)
@@ -161,7 +161,7 @@ static uint32_t nested(struct made *m, int steps, int prototypes)
 			ADD(m, 0, FUNC_PROTO << 24 | 1, 0, 0, m->last);
 		else
 			ADD(m, 0, PTR << 24, m->last);
-	return ADD(m, text(m, "t"), 8 << 24, m->last);
+	return ADD(m, text(m, "t"), TYPEDEF << 24, m->last);
 }
 
 static void compatible(const char *what, int steps, int prototypes)
