@@ -8,7 +8,7 @@ needs_library() {
 
 # needs_cargo: cargo is there.
 needs_cargo() {
-  command -v cargo >/dev/null || missing "cargo is missing: install Rust 1.81 or newer, by rustup or as Debian's packages rustc and cargo"
+  command -v cargo >/dev/null || missing "cargo is missing: install Rust 1.81 or newer, by rustup or from your system's packages"
 }
 
 # needs_rt: the prover is there.

@@ -1,7 +1,7 @@
 /* leamugi: CO-RE relocation of one function's eBPF instructions, by a library whose every function is proved.
  *
- * Link with libleamugi.a, which needs no other library. In this header: the numbers, the structs, small functions over them (what a
- * loader calls), and below those the library's own five calls.
+ * Link with libleamugi.a, which needs memcpy, memmove and memset and nothing else. In this header: the numbers, the structs, the
+ * library's own five calls, and small functions over the structs, which a loader calls.
  *
  *     struct leamugi_btf local = leamugi_btf_of(local_bytes, local_len, local_table, local_entries);
  *     struct leamugi_btf target = leamugi_btf_of(target_bytes, target_len, target_table, target_entries);
