@@ -1,22 +1,36 @@
-# Sourced: how to build and run the host's programs. The proved library is an archive for x86-64; elsewhere the host's programs
-# are built for x86-64 too, with Debian's cross tools, and run under an emulator (so a time measured there says nothing).
-case $(uname -m) in
-x86_64) leamugi_runner= ;;
-*)
-  leamugi_runner=qemu-x86_64-static
-  if ! command -v x86_64-linux-gnu-gcc >/dev/null || ! command -v qemu-x86_64-static >/dev/null || [ ! -d /usr/lib/rustlib/x86_64-unknown-linux-gnu ]; then
-    echo "leamugi: installing the tools to build and run x86-64 programs, once" >&2
-    dpkg --add-architecture amd64
-    apt-get update -qq
-    DEBIAN_FRONTEND=noninteractive apt-get install -y -qq --no-install-recommends \
-      rustc-web libstd-rust-web-dev:amd64 gcc-x86-64-linux-gnu libc6-dev-amd64-cross qemu-user-static >/dev/null
-  fi
-  export RUSTC=/usr/bin/rustc RUSTDOC=/usr/bin/rustdoc
-  export CARGO_BUILD_TARGET=x86_64-unknown-linux-gnu
-  export CARGO_TARGET_X86_64_UNKNOWN_LINUX_GNU_LINKER=x86_64-linux-gnu-gcc
-  export CARGO_TARGET_X86_64_UNKNOWN_LINUX_GNU_RUNNER=$leamugi_runner
-  ;;
-esac
-# where cargo puts a release build of the workspace
+# Sourced, before any cd: what the scripts need of this machine, and what is said where it is missing.
+
+# needs_library: the archive that is to be linked is there.
+needs_library() {
+  [ -f "$leamugi_library" ] ||
+    missing "$leamugi_library is missing: dist/ has the library for Linux on x86_64 and aarch64, and LEAMUGI_LIB names the folder of another"
+}
+
+# needs_cargo: cargo is there.
+needs_cargo() {
+  command -v cargo >/dev/null || missing "cargo is missing: install Rust 1.81 or newer, by rustup or from your system's packages"
+}
+
+# needs_rt: the prover is there.
+needs_rt() {
+  command -v rt >/dev/null || missing "rt is missing: put the Rattle toolchain's bin folder on the PATH; the library that is shipped in dist/ does without"
+}
+
+missing() {
+  echo "leamugi: $1" >&2
+  exit 2
+}
+
+# The folder of the Rattle toolchain.
+kit() { dirname "$(dirname "$(readlink -f "$(command -v rt)")")"; }
+
+# The library for this machine's processor: the shipped one, or that of the folder in LEAMUGI_LIB.
+if [ -n "${LEAMUGI_LIB:-}" ]; then
+  LEAMUGI_LIB=$(realpath -m "$LEAMUGI_LIB")
+  export LEAMUGI_LIB
+fi
+leamugi_library=${LEAMUGI_LIB:-$(realpath "$(dirname "${BASH_SOURCE[0]}")/../dist")/$(uname -m)}/libleamugi.a
+# The host's programs are built for this machine, and run on it: where cargo puts them, and nothing that runs them.
+unset CARGO_BUILD_TARGET
 leamugi_built=release
-[ -z "${CARGO_BUILD_TARGET:-}" ] || leamugi_built=$CARGO_BUILD_TARGET/release
+leamugi_runner=

@@ -1,4 +1,4 @@
-/* Includes the header, links the library, and runs the demo's function through it: what a C loader does. */
+/* Includes the header, links the library, and runs the demo's function through it: what a C loader does. It is C11 and C++. */
 #include <stdio.h>
 #include <stdlib.h>
 #include <string.h>
@@ -8,13 +8,6 @@
 struct bytes {
 	uint8_t *at;
 	size_t len;
-};
-
-struct btf {
-	struct bytes file;
-	uint32_t *table;
-	size_t entries;
-	uint64_t read[5];
 };
 
 static struct bytes file(const char *folder, const char *name)
@@ -32,85 +25,84 @@ static struct bytes file(const char *folder, const char *name)
 	fseek(f, 0, SEEK_END);
 	b.len = (size_t)ftell(f);
 	rewind(f);
-	b.at = malloc(b.len + 1);
+	b.at = (uint8_t *)malloc(b.len + 1);
 	if (!b.at || fread(b.at, 1, b.len, f) != b.len)
 		exit(2);
 	fclose(f);
 	return b;
 }
 
-/* Asks how many entries the table needs, then reads. */
-static struct btf read_btf(struct bytes file)
+static struct leamugi_btf read_btf(struct bytes file)
 {
-	struct btf btf = { .file = file };
-	uint32_t none;
-	uint32_t number = leamugi_read(file.at, file.len, &none, 0, btf.read, 5);
+	size_t entries = leamugi_table_len(file.len);
+	struct leamugi_btf btf = leamugi_btf_of(file.at, file.len, (uint32_t *)calloc(entries, sizeof(uint32_t)), entries);
+	enum leamugi_answer answer = leamugi_btf_read(&btf);
 
-	if (number == 3) {
-		btf.entries = btf.read[0];
-		btf.table = calloc(btf.entries, sizeof *btf.table);
-		number = leamugi_read(file.at, file.len, btf.table, btf.entries, btf.read, 5);
-	}
-	if (number != 0) {
-		printf("refusal %u at %llu\n", number, (unsigned long long)btf.read[0]);
+	if (answer != LEAMUGI_DONE) {
+		printf("refusal %d at %llu\n", answer, (unsigned long long)btf.read[0]);
 		exit(1);
 	}
 	return btf;
 }
 
-/* A BTF that was read, as the calls take it. */
-#define READ(btf) (btf).file.at, (btf).file.len, (btf).table, (btf).entries, (btf).read, 5
-
-/* A name of the strings, which begin where the reading said. */
-static const char *name_at(const struct btf *btf, const uint64_t *said)
+/* The structs and their members. */
+static void print_structs(const struct leamugi_btf *btf)
 {
-	static char name[64];
+	enum { STRUCT = 4 };
 
-	snprintf(name, sizeof name, "%.*s", (int)said[1], (const char *)btf->file.at + btf->read[2] + said[0]);
-	return name;
+	for (uint32_t id = 1; id <= leamugi_last_id(btf); id++) {
+		struct leamugi_type_info type = leamugi_type_at(btf, id);
+
+		if (type.kind != STRUCT)
+			continue;
+		printf("struct %.*s, %u bytes:", (int)type.name_len, type.name, type.size);
+		for (uint32_t k = 0; k < type.entries; k++) {
+			struct leamugi_entry_info member = leamugi_entry_at(btf, id, k);
+
+			printf(" %.*s of type %u at bit %u", (int)member.name_len, member.name, member.type, member.low);
+		}
+		printf("%s\n", leamugi_kind_flag(btf, id) ? ", with bitfields" : "");
+	}
 }
 
-/* The structs and their members. */
-static void print_structs(const struct btf *btf)
+/* A table that is too short, and the entries that it needs; then bytes that are no BTF, and where that is seen. */
+static void print_refused(struct leamugi_btf btf)
 {
-	uint64_t said[5];
+	enum leamugi_answer answer;
 
-	for (uint32_t id = 1; id <= btf->read[4]; id++) {
-		if (leamugi_type(READ(*btf), id, said, 5) != 4)
-			continue;
-		printf("struct %s, %llu bytes:", name_at(btf, said), (unsigned long long)said[2]);
-		for (uint64_t k = 0, members = said[4]; k < members; k++) {
-			uint32_t type = leamugi_entry(READ(*btf), id, (uint32_t)k, said, 5);
-
-			printf(" %s of type %u at bit %llu", name_at(btf, said), type, (unsigned long long)said[2]);
-		}
-		printf("\n");
-	}
+	btf.table_len = 1;
+	answer = leamugi_btf_read(&btf);
+	printf("refusal %d, %llu entries are needed\n", answer, (unsigned long long)btf.read[0]);
+	btf.bytes_len = 6;
+	answer = leamugi_btf_read(&btf);
+	printf("refusal %d at %llu\n", answer, (unsigned long long)btf.read[0]);
 }
 
 int main(int argc, char **argv)
 {
 	const char *folder = argc > 1 ? argv[1] : "demo";
-	struct btf local = read_btf(file(folder, "local.btf"));
-	struct btf target = read_btf(file(folder, "target.btf"));
+	struct leamugi_btf local = read_btf(file(folder, "local.btf"));
+	struct leamugi_btf target = read_btf(file(folder, "target.btf"));
 	struct bytes insns = file(folder, "insns.bin"), again = file(folder, "insns.bin");
 	struct bytes records = file(folder, "records.bin");
+	struct leamugi_function function = { insns.at, insns.len, 0, records.at, records.len };
+	struct leamugi_said said;
+	enum leamugi_answer answer;
 	static uint8_t report[4096];
-	uint64_t said[5];
-	uint32_t number;
 
 	print_structs(&local);
-	number = leamugi_relocate_reported(READ(local), READ(target), insns.at, insns.len, 0, records.at, records.len, said, 5, report,
-					   sizeof report);
-	printf("answer %u, %llu applied\n", number, (unsigned long long)said[0]);
-	fwrite(report, 1, said[3] <= sizeof report ? said[3] : 0, stdout);
+	answer = leamugi_relocate_report(&local, &target, &function, &said, report, sizeof report);
+	printf("answer %d, %llu applied\n", answer, (unsigned long long)said.applied);
+	fwrite(report, 1, said.report_len <= sizeof report ? said.report_len : 0, stdout);
 	for (size_t i = 0; i < insns.len; i++)
 		printf("%02x%s", insns.at[i], i % 8 == 7 ? "\n" : " ");
-	number = leamugi_relocate_read(READ(local), READ(target), again.at, again.len, 0, records.at, records.len, said, 5);
-	printf("answer %u, %llu applied, %s\n", number, (unsigned long long)said[0],
+	function.insns = again.at;
+	answer = leamugi_relocate(&local, &target, &function, &said);
+	printf("answer %d, %llu applied, %s\n", answer, (unsigned long long)said.applied,
 	       memcmp(insns.at, again.at, insns.len) == 0 ? "the same without a report" : "otherwise without a report");
-	/* A read of anything else is refused, with its place. */
-	number = leamugi_read((const uint8_t *)"no BTF", 6, target.table, target.entries, said, 5);
-	printf("refusal %u at %llu\n", number, (unsigned long long)said[0]);
+	records.at[12] = 12;
+	answer = leamugi_relocate(&local, &target, &function, &said);
+	printf("answer %d, %llu applied, %llu\n", answer, (unsigned long long)said.applied, (unsigned long long)said.values[0]);
+	print_refused(target);
 	return 0;
 }

@@ -2,7 +2,7 @@
 use crate::libbpf;
 use crate::measure::{measured, Way};
 use crate::table::{print_aim, print_table};
-use leamugi::Btf;
+use leamugi::{Btf, Kind};
 use oracle::timing::{self, Prepared};
 use std::hint::black_box;
 
@@ -13,8 +13,7 @@ const SEARCH: &str = "libbpf, `bpf_core_add_cands`: the search alone";
 const RECORD: &str = "libbpf, search, `bpf_core_calc_relo_insn`, `bpf_core_patch_insn`";
 /// In a target of so many types a record's time is its search's; in a smaller one it is the record's own work.
 const MANY: u32 = 1000;
-/// BTF_KIND_STRUCT, and the bytes of a record.
-const STRUCT: u32 = 4;
+/// The bytes of a record.
 const BYTES: usize = 16;
 
 /// The demo's function as its files have it.
@@ -109,9 +108,6 @@ fn bench_record(work: &Work) {
 
 /// The target's structs of a name, but for flavours.
 fn candidates(target: &Btf, name: &str) -> Vec<u32> {
-    let is_named = |id: &u32| {
-        let typ = target.type_at(*id);
-        typ.kind == STRUCT && target.name(*id).split("___").next() == Some(name)
-    };
-    (1..=target.types()).filter(is_named).collect()
+    let structs = target.iter().filter(|typ| typ.kind == Kind::Struct);
+    structs.map(|typ| typ.id).filter(|id| target.name(*id).split("___").next() == Some(name)).collect()
 }

@@ -1,9 +1,13 @@
 //! What is wrong with bytes that were refused as a BTF, in words. For people: the library has refused them before, and nothing
-//! is decided here.
-use std::fmt;
+//! is decided here. It is a second reader, and no proved one: `agreement` holds it to the library's answers.
+use core::{fmt, iter};
+
+#[cfg(test)]
+mod agreement;
 
 /// What is wrong with a BTF at the place of its first fault (docs/SCOPE.md, section 4).
-#[derive(Clone, Copy, Debug, PartialEq, Eq)]
+#[derive(Clone, Copy, Debug, PartialEq, Eq, Hash)]
+#[non_exhaustive]
 pub enum Fault {
     /// There are fewer bytes than a header has.
     ShortHeader {
@@ -92,32 +96,35 @@ impl fmt::Display for Fault {
     }
 }
 
-/// A first fault: where the type with it begins, its name, and what is wrong.
+/// A first fault: the type with it (0 for header and strings), where that begins, its name, and what is wrong.
 #[derive(Debug, PartialEq, Eq)]
-pub(crate) struct Found {
+pub(crate) struct Found<'a> {
+    pub id: u32,
     pub at: usize,
-    pub name: String,
+    pub name: &'a [u8],
     pub fault: Fault,
 }
 
-/// The fault that the library has found at this id; 0 for header and strings.
-pub(crate) fn find(bytes: &[u8], id: u32) -> Found {
+/// The first fault of bytes within the limits of docs/SCOPE.md, in the order of its section 3; `None` where they are a BTF.
+pub(crate) fn first(bytes: &[u8]) -> Option<Found<'_>> {
     let sections = match Sections::of(bytes) {
-        Ok(sections) if id > 0 => sections,
-        Ok(_) => return Found { at: 0, name: String::new(), fault: Fault::Unknown },
-        Err(fault) => return Found { at: 0, name: String::new(), fault },
+        Ok(sections) => sections,
+        Err(fault) => return Some(Found { id: 0, at: 0, name: &[], fault }),
     };
-    let places = sections.places();
-    let Some(at) = places.get(id as usize - 1).copied() else {
-        return Found { at: 0, name: String::new(), fault: Fault::Unknown };
-    };
-    let fault = sections.own_fault(at).or_else(|| sections.unfit(at, places.len() as u32)).unwrap_or(Fault::Unknown);
-    Found { at: sections.start + at, name: sections.name(word(sections.types, at)), fault }
+    let last = sections.places().count() as u32;
+    let cut = sections.first(|at| sections.own_fault(at));
+    cut.or_else(|| sections.first(|at| sections.unfit(at, last)))
 }
 
 /// Four bytes as a number; 0 where they are not all there.
-fn word(bytes: &[u8], at: usize) -> u32 {
+pub(crate) fn word(bytes: &[u8], at: usize) -> u32 {
     bytes.get(at..at + 4).map_or(0, |four| u32::from_le_bytes(four.try_into().expect("four bytes")))
+}
+
+/// The bytes from an offset on, up to a zero; none past the end.
+pub(crate) fn up_to_zero(bytes: &[u8], offset: u32) -> &[u8] {
+    let rest = bytes.get(offset as usize..).unwrap_or_default();
+    rest.split(|byte| *byte == 0).next().unwrap_or_default()
 }
 
 /// The bytes behind a type's twelve: those that come once, and those of each entry; `None` for what is no kind.
@@ -129,6 +136,25 @@ fn tail(kind: u32) -> Option<(usize, usize)> {
         6 | 13 => Some((0, 8)),
         2 | 7..=12 | 16 | 18 => Some((0, 0)),
         _ => None,
+    }
+}
+
+/// Which words of a type of a kind are type ids, but for those of what it lists.
+fn own_ids(kind: u32) -> &'static [usize] {
+    match kind {
+        2 | 8..=14 | 17 | 18 => &[8],
+        3 => &[12, 16],
+        _ => &[],
+    }
+}
+
+/// Where in an entry of a kind the name's offset stands, and where the type id.
+fn in_entry(kind: u32) -> (Option<usize>, Option<usize>) {
+    match kind {
+        4 | 5 | 13 => (Some(0), Some(4)),
+        6 | 19 => (Some(0), None),
+        15 => (None, Some(0)),
+        _ => (None, None),
     }
 }
 
@@ -183,9 +209,16 @@ impl<'a> Sections<'a> {
     }
 
     /// Where each type begins, up to one that does not end.
-    fn places(&self) -> Vec<usize> {
-        let begins = std::iter::successors(Some(0), |at| self.after(*at));
-        begins.take_while(|at| *at < self.types.len()).collect()
+    fn places(&self) -> impl Iterator<Item = usize> + '_ {
+        let begins = iter::successors(Some(0), |at| self.after(*at));
+        begins.take_while(|at| *at < self.types.len())
+    }
+
+    /// The first type with a fault of a sort.
+    fn first(&self, fault: impl Fn(usize) -> Option<Fault>) -> Option<Found<'a>> {
+        let mut found = self.places().zip(1..).filter_map(|(at, id)| Some((at, id, fault(at)?)));
+        let (at, id, fault) = found.next()?;
+        Some(Found { id, at: self.start + at, name: up_to_zero(self.strings, word(self.types, at)), fault })
     }
 
     /// What is wrong with a type by itself.
@@ -206,44 +239,17 @@ impl<'a> Sections<'a> {
 
     /// The first name outside the strings, else the first id above the last.
     fn unfit(&self, at: usize, last: u32) -> Option<Fault> {
-        let (names, ids) = self.words(at);
-        let word = |at: usize| word(self.types, at);
-        let name = names.into_iter().map(word).find(|offset| *offset as usize >= self.strings.len());
-        let id = ids.into_iter().map(word).find(|id| *id > last);
-        name.map(|offset| Fault::Name { offset }).or(id.map(|found| Fault::Id { found, last }))
-    }
-
-    /// Where the name offsets of a type stand, and where its type ids do.
-    fn words(&self, at: usize) -> (Vec<usize>, Vec<usize>) {
         let kind = self.kind(at);
-        let each = |size: usize, by: usize| (0..self.entries(at)).map(move |k| at + 12 + size * k + by);
-        let mut names = vec![at];
-        let mut ids = match kind {
-            2 | 8..=14 | 17 | 18 => vec![at + 8],
-            3 => vec![at + 12, at + 16],
-            _ => vec![],
-        };
-        match kind {
-            4 | 5 => {
-                names.extend(each(12, 0));
-                ids.extend(each(12, 4));
-            }
-            6 => names.extend(each(8, 0)),
-            13 => {
-                names.extend(each(8, 0));
-                ids.extend(each(8, 4));
-            }
-            15 => ids.extend(each(12, 0)),
-            19 => names.extend(each(12, 0)),
-            _ => {}
-        }
-        (names, ids)
+        let (name, id) = in_entry(kind);
+        let mut names = iter::once(at).chain(self.listed(at, name)).map(|at| word(self.types, at));
+        let mut ids = own_ids(kind).iter().map(|by| at + by).chain(self.listed(at, id)).map(|at| word(self.types, at));
+        let name = names.find(|offset| *offset as usize >= self.strings.len()).map(|offset| Fault::Name { offset });
+        name.or_else(|| ids.find(|id| *id > last).map(|found| Fault::Id { found, last }))
     }
 
-    /// The text at an offset of the strings, nothing outside them.
-    fn name(&self, offset: u32) -> String {
-        let text = self.strings.get(offset as usize..).unwrap_or_default();
-        let name = text.split(|byte| *byte == 0).next().unwrap_or_default();
-        String::from_utf8_lossy(name).into_owned()
+    /// Where the same word of each entry stands.
+    fn listed(&self, at: usize, by: Option<usize>) -> impl Iterator<Item = usize> {
+        let (each, entries) = (tail(self.kind(at)).map_or(0, |(_, each)| each), self.entries(at));
+        by.into_iter().flat_map(move |by| (0..entries).map(move |k| at + 12 + each * k + by))
     }
 }

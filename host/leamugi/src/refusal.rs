@@ -1,9 +1,13 @@
 //! Refusals, typed, with the numbers of docs/SCOPE.md, section 3, and words that name the place.
 use crate::fault::Fault;
-use std::fmt;
+use alloc::string::String;
+use alloc::vec;
+use alloc::vec::Vec;
+use core::error::Error;
+use core::fmt;
 
 /// Which of the two BTFs.
-#[derive(Clone, Copy, Debug, PartialEq, Eq)]
+#[derive(Clone, Copy, Debug, PartialEq, Eq, Hash)]
 pub enum Which {
     /// The program's.
     Local,
@@ -26,8 +30,10 @@ const MAX_TYPES: u32 = 1_048_575;
 
 /// Why bytes are no BTF that can be used.
 #[derive(Clone, Debug, PartialEq, Eq)]
+#[non_exhaustive]
 pub enum BtfRefusal {
     /// No. 1: bad BTF.
+    #[non_exhaustive]
     Bad {
         /// The type id of the first fault, 0 for header or strings.
         id: u32,
@@ -39,9 +45,15 @@ pub enum BtfRefusal {
         fault: Fault,
     },
     /// No. 2: more bytes or more types than are carried.
+    #[non_exhaustive]
     OverLimit {
         /// How many bytes there are.
         bytes: usize,
+    },
+    /// A number that this crate does not know: the library is of another version.
+    Unknown {
+        /// The number.
+        number: u32,
     },
 }
 
@@ -51,6 +63,7 @@ impl BtfRefusal {
         match self {
             BtfRefusal::Bad { .. } => 1,
             BtfRefusal::OverLimit { .. } => 2,
+            BtfRefusal::Unknown { number } => *number,
         }
     }
 
@@ -69,6 +82,7 @@ impl fmt::Display for BtfRefusal {
                 write!(f, "BTF over a limit: {bytes} bytes, and {MAX_BYTES} are carried")
             }
             BtfRefusal::OverLimit { .. } => write!(f, "BTF over a limit: more than {MAX_TYPES} types"),
+            BtfRefusal::Unknown { number } => write!(f, "refusal {number}, which this version does not know"),
         }
     }
 }
@@ -82,10 +96,73 @@ fn named(name: &str) -> &str {
     }
 }
 
-impl std::error::Error for BtfRefusal {}
+impl Error for BtfRefusal {}
+
+/// Why an instruction cannot take a value: the reasons of refusal 12.
+#[derive(Clone, Copy, Debug, PartialEq, Eq, Hash)]
+#[non_exhaustive]
+pub enum Reason {
+    /// 1: an arithmetic instruction has another source register than r0.
+    SourceRegister,
+    /// 2: the offset is above 32,767.
+    OffsetTooBig,
+    /// 3: a load's or store's size would change between types that are neither both pointers nor both unsigned integers.
+    TypesDiffer,
+    /// 4: the target's size is not 1, 2, 4 or 8 bytes.
+    TargetSize,
+    /// 5: the instruction's class takes no value.
+    Class,
+    /// 6: a load's or store's size would change, and one side has no type to compare.
+    NoType,
+    /// A number that this crate does not know: the library is of another version.
+    Other(u32),
+}
+
+impl Reason {
+    /// The reason of a number.
+    pub fn from_number(number: u32) -> Reason {
+        match number {
+            1 => Reason::SourceRegister,
+            2 => Reason::OffsetTooBig,
+            3 => Reason::TypesDiffer,
+            4 => Reason::TargetSize,
+            5 => Reason::Class,
+            6 => Reason::NoType,
+            other => Reason::Other(other),
+        }
+    }
+
+    /// The reason's number.
+    pub fn number(self) -> u32 {
+        match self {
+            Reason::SourceRegister => 1,
+            Reason::OffsetTooBig => 2,
+            Reason::TypesDiffer => 3,
+            Reason::TargetSize => 4,
+            Reason::Class => 5,
+            Reason::NoType => 6,
+            Reason::Other(number) => number,
+        }
+    }
+}
+
+impl fmt::Display for Reason {
+    fn fmt(&self, f: &mut fmt::Formatter<'_>) -> fmt::Result {
+        f.write_str(match self {
+            Reason::SourceRegister => "an arithmetic instruction whose source register is not r0 takes no immediate",
+            Reason::OffsetTooBig => "the offset is above 32767",
+            Reason::TypesDiffer => "the load's size changes between types that are neither pointers nor unsigned integers",
+            Reason::TargetSize => "the target's size is not 1, 2, 4 or 8 bytes",
+            Reason::Class => "its class takes no value",
+            Reason::NoType => "the load's size changes and one side has no type to compare",
+            Reason::Other(_) => "this version does not know it",
+        })
+    }
+}
 
 /// Why a record is refused. The variants are numbers 4 to 17.
 #[derive(Clone, Copy, Debug, PartialEq, Eq)]
+#[non_exhaustive]
 pub enum Why {
     /// No. 4: the record's kind is above 11.
     KindTooBig {
@@ -124,8 +201,8 @@ pub enum Why {
     },
     /// No. 12: the instruction cannot take the value.
     BadInstruction {
-        /// The reason, 1 to 6.
-        reason: u32,
+        /// The reason.
+        reason: Reason,
     },
     /// No. 13: no type matches a record that asks for a type's id or size.
     NoMatch,
@@ -173,7 +250,7 @@ impl Why {
             9 => Why::WrongKind,
             10 => Why::Conflict { id, count: b },
             11 => Why::MaximumNesting { id },
-            12 => Why::BadInstruction { reason: id },
+            12 => Why::BadInstruction { reason: Reason::from_number(id) },
             13 => Why::NoMatch,
             14 => Why::Unresolved,
             15 => Why::TooManyParts,
@@ -191,7 +268,7 @@ impl Why {
             Why::IndexTooBig { index, count } => vec![index, count],
             Why::Conflict { id, count } => vec![id.into(), count],
             Why::MaximumNesting { id } => vec![id.into()],
-            Why::BadInstruction { reason } => vec![reason.into()],
+            Why::BadInstruction { reason } => vec![reason.number().into()],
             Why::NotInFunction
             | Why::BadAccess
             | Why::WrongKind
@@ -201,19 +278,6 @@ impl Why {
             | Why::BitsTooBig
             | Why::TooDeep => vec![record],
         }
-    }
-}
-
-/// The words of the reasons of refusal 12.
-fn reason_words(reason: u32) -> &'static str {
-    match reason {
-        1 => "an arithmetic instruction whose source register is not r0 takes no immediate",
-        2 => "the offset is above 32767",
-        3 => "the load's size changes between types that are neither pointers nor unsigned integers",
-        4 => "the target's size is not 1, 2, 4 or 8 bytes",
-        5 => "its class takes no value",
-        6 => "the load's size changes and one side has no type to compare",
-        _ => "unknown reason",
     }
 }
 
@@ -230,7 +294,7 @@ impl fmt::Display for Why {
                 write!(f, "{count} matching types conflict with the first match, the first of them type id {id}")
             }
             Why::MaximumNesting { id } => write!(f, "the access has 64 parts in candidate type id {id}, and goes on"),
-            Why::BadInstruction { reason } => write!(f, "the instruction is invalid (reason {reason}): {}", reason_words(*reason)),
+            Why::BadInstruction { reason } => write!(f, "the instruction is invalid (reason {}): {reason}", reason.number()),
             Why::NoMatch => write!(f, "no target type matches, and a type's id or size is asked for"),
             Why::Unresolved => write!(f, "an id, a string, a size or a chain of modifiers cannot be resolved"),
             Why::TooManyParts => write!(f, "its access string has more than 64 parts"),
@@ -242,8 +306,10 @@ impl fmt::Display for Why {
 
 /// Why a relocation was refused, and where.
 #[derive(Clone, Debug, PartialEq, Eq)]
+#[non_exhaustive]
 pub enum Refused {
     /// A record was refused. The records before it are applied, and their patches stay.
+    #[non_exhaustive]
     Record {
         /// The record's number in the list, from 0; as many records were applied before it.
         record: u64,
@@ -266,6 +332,14 @@ pub enum Refused {
     /// No. 18: the function's bytes or section offset are no multiple of 8, the records' bytes no multiple of 16, or there
     /// are over 4,096 instructions.
     Misshapen,
+    /// A number that this crate does not know: the library is of another version.
+    #[non_exhaustive]
+    Unknown {
+        /// The number.
+        number: u32,
+        /// How many records were applied.
+        applied: u64,
+    },
 }
 
 impl Refused {
@@ -275,13 +349,14 @@ impl Refused {
             Refused::Record { why, .. } => why.number(),
             Refused::Btf { why, .. } => why.number(),
             Refused::Misshapen => 18,
+            Refused::Unknown { number, .. } => *number,
         }
     }
 
     /// How many records were applied before.
     pub fn applied(&self) -> u64 {
         match self {
-            Refused::Record { record, .. } => *record,
+            Refused::Record { record: applied, .. } | Refused::Unknown { applied, .. } => *applied,
             Refused::Btf { .. } | Refused::Misshapen => 0,
         }
     }
@@ -301,15 +376,12 @@ impl fmt::Display for Refused {
             Refused::Misshapen => {
                 write!(f, "instructions and section offset must be multiples of 8 bytes, records of 16, and instructions at most 4,096")
             }
+            Refused::Unknown { number, applied } => {
+                write!(f, "refusal {number}, which this version does not know, after {applied} records")
+            }
         }
     }
 }
 
-impl std::error::Error for Refused {
-    fn source(&self) -> Option<&(dyn std::error::Error + 'static)> {
-        match self {
-            Refused::Btf { why, .. } => Some(why),
-            Refused::Record { .. } | Refused::Misshapen => None,
-        }
-    }
-}
+/// No source: what is shown has the cause in it already.
+impl Error for Refused {}

@@ -1,9 +1,8 @@
 //! The demo's function against its small target: values, bytes, report, refusals that name their place.
-use leamugi::{check_shape, read_both, relocate, relocate_reported, Btf, Refused, Why};
+mod common;
 
-fn demo(name: &str) -> Vec<u8> {
-    std::fs::read(format!("{}/../../demo/{name}", env!("CARGO_MANIFEST_DIR"))).expect("a file of the demo")
-}
+use common::demo;
+use leamugi::{check_shape, read_both, relocate, relocate_reported, Btf, Record, RecordKind, Refused, Why};
 
 fn both() -> (Btf, Btf) {
     (Btf::read(demo("local.btf")).expect("a BTF"), Btf::read(demo("target.btf")).expect("a BTF"))
@@ -74,22 +73,45 @@ fn what_is_refused_before_the_records() {
 }
 
 #[test]
-fn types_and_entries_by_id() {
-    let (local, _) = both();
-    let sock = (1..=local.types()).find(|id| local.name(*id) == "tcp_sock").expect("a type of that name");
-    let typ = local.type_at(sock);
-    assert_eq!((typ.kind, typ.entries), (4, 3));
-    assert_eq!(local.entry_at(sock, 1).name, b"lsndtime");
-    assert_eq!(local.path(sock, "0:0:0:0"), "tcp_sock.inet_conn.icsk_ack.lrcvtime");
-    assert_eq!(local.type_at(local.types() + 1).kind, 0);
-    assert_eq!([0, sock, local.types() + 1].map(|id| local.type_at(id).flag), [false; 3]);
+fn bytes_stay_where_they_are() {
+    let (local, target, records) = (demo("local.btf"), demo("target.btf"), demo("records.bin"));
+    let lent = Btf::parse(&local[..]).expect("a BTF");
+    assert_eq!(lent.bytes().as_ptr(), local.as_ptr());
+    // each BTF may be held by something else
+    let shared = Btf::parse(std::sync::Arc::<[u8]>::from(target)).expect("a BTF");
+    assert_eq!(relocate(&lent, &shared, &mut demo("insns.bin"), 0, &records), Ok(6));
 }
 
 #[test]
-fn the_kind_flag_of_a_type() {
-    // FWD of a union, FWD of a struct
-    let types = [0, (1 << 31) | (7 << 24), 0, 0, 7 << 24, 0u32];
-    let words = [24, 0, 24, 24, 1].iter().chain(&types).flat_map(|word| word.to_le_bytes());
-    let btf = Btf::read([0x9f, 0xeb, 1, 0].into_iter().chain(words).chain([0]).collect()).expect("a BTF");
-    assert_eq!([1, 2].map(|id| btf.type_at(id).flag), [true, false]);
+fn a_btf_is_shown_in_one_line() {
+    let target = Btf::read(demo("target.btf")).expect("a BTF");
+    assert_eq!(format!("{target:?}"), "Btf(23 types, 396 bytes of strings, 1044 bytes)");
+    assert_eq!(format!("{target:#?}"), format!("{target:?}"));
+}
+
+#[test]
+fn a_cause_is_shown_once() {
+    let refused = read_both(demo("local.btf"), vec![], &[], 0, &[]).expect_err("refused");
+    let mut chain = vec![refused.to_string()];
+    let mut next = std::error::Error::source(&refused);
+    while let Some(cause) = next {
+        chain.push(cause.to_string());
+        next = cause.source();
+    }
+    assert_eq!(chain.join(": ").matches("fewer than a header's 24").count(), 1);
+}
+
+#[test]
+fn records_and_their_bytes() {
+    let bytes = demo("records.bin");
+    let records: Vec<Record> = Record::list(&bytes).collect();
+    assert_eq!(records.len(), 6);
+    assert_eq!(records[0], Record { insn_offset: 8, type_id: 11, access_offset: records[0].access_offset, kind: 0 });
+    assert_eq!(records.iter().flat_map(|record| record.to_bytes()).collect::<Vec<u8>>(), bytes);
+    assert_eq!(Record::list(&bytes[1..]).len(), 5);
+    for number in 0..12 {
+        assert_eq!(RecordKind::from_number(number).map(RecordKind::number), Some(number));
+    }
+    assert_eq!(RecordKind::from_number(12), None);
+    assert_eq!(RecordKind::VariantValue.to_string(), "variant value");
 }

@@ -1,16 +1,11 @@
-//! What is said of bytes that are no BTF: the words for each fault, and that a fault is found again wherever the library refuses.
-use leamugi::{Btf, BtfRefusal, Fault, Which};
+//! What is said of bytes that are no BTF: the words for each fault.
+mod common;
 
-fn demo(name: &str) -> Vec<u8> {
-    std::fs::read(format!("{}/../../demo/{name}", env!("CARGO_MANIFEST_DIR"))).expect("a file of the demo")
-}
+use leamugi::{Btf, Which};
 
 /// A BTF of these words as types, and the strings "" and "a".
 fn btf(types: &[u32]) -> Vec<u8> {
-    let size = 4 * types.len() as u32;
-    let header = [24, 0, size, size, 3];
-    let words = header.iter().chain(types).flat_map(|word| word.to_le_bytes());
-    [0x9f, 0xeb, 1, 0].into_iter().chain(words).chain([0, b'a', 0]).collect()
+    common::btf(types, b"\0a\0")
 }
 
 fn said(bytes: Vec<u8>) -> String {
@@ -59,28 +54,4 @@ fn words_for_limits_and_for_which() {
     let refused = Btf::read(vec![]).expect_err("no BTF").of(Which::Target);
     assert_eq!((refused.number(), refused.applied()), (1, 0));
     assert_eq!(refused.to_string(), "the target BTF: bad BTF: 0 bytes are fewer than a header's 24");
-}
-
-/// Each byte of a BTF in turn made another: whatever is refused, the fault is found again.
-#[test]
-fn every_refusal_has_its_fault() {
-    let mut refused = 0;
-    for name in ["local.btf", "target.btf"] {
-        let whole = demo(name);
-        for at in 0..whole.len() {
-            for change in [1, 2, 4, 0x10, 0x80, 0xff] {
-                let mut bytes = whole.clone();
-                bytes[at] ^= change;
-                if let Err(BtfRefusal::Bad { fault, id, .. }) = Btf::read(bytes) {
-                    assert_ne!(fault, Fault::Unknown, "{name}, byte {at} xor {change}, type id {id}");
-                    refused += 1;
-                }
-            }
-        }
-        for length in 0..whole.len() {
-            let fault = Btf::read(whole[..length].to_vec()).err();
-            assert!(matches!(fault, Some(BtfRefusal::Bad { id: 0, fault, .. }) if fault != Fault::Unknown));
-        }
-    }
-    assert!(refused > 1000, "{refused} were refused");
 }

@@ -1,5 +1,5 @@
 //! Section 2's limits on both sides, through the library: what a proved program's stack is too small for.
-use leamugi::{relocate, Btf, BtfRefusal};
+use leamugi::{relocate, Btf, BtfRefusal, Kind};
 
 const MAX_BYTES: usize = 16_777_216;
 const MAX_TYPES: usize = 1_048_575;
@@ -27,7 +27,7 @@ fn floats(count: usize) -> Vec<u8> {
 fn types_up_to_the_limit() {
     let read = Btf::read(btf(&floats(MAX_TYPES), &[0])).expect("accepted");
     assert_eq!(read.types() as usize, MAX_TYPES);
-    assert_eq!(read.type_at(MAX_TYPES as u32).kind, 16);
+    assert_eq!(read.type_at(MAX_TYPES as u32).kind, Kind::Float);
 }
 
 #[test]
@@ -92,9 +92,9 @@ fn every_entry_of_a_table_that_is_filled_in_parts() {
             let found = read.type_at(id);
             let said = (found.kind, found.size, found.referred, found.entries);
             let made = match id % 3 {
-                0 => (1, u64::from(id), 0, 0),
-                1 => (2, 0, id, 0),
-                _ => (13, 0, 0, u64::from(id % 9)),
+                0 => (Kind::Int, id, 0, 0),
+                1 => (Kind::Ptr, 0, id, 0),
+                _ => (Kind::FuncProto, 0, 0, id % 9),
             };
             assert_eq!(said, made, "type {id} of {types}");
         }

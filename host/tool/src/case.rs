@@ -146,10 +146,10 @@ fn said(result: &Result<u64, Refused>) -> String {
 /// What stands beside a refusal's number.
 fn beside(refused: &Refused) -> String {
     let (record, why) = match refused {
-        Refused::Misshapen => return String::new(),
         Refused::Btf { which, why: BtfRefusal::Bad { id, .. } } => return format!(" btf={which} id={id}"),
-        Refused::Btf { which, why: BtfRefusal::OverLimit { .. } } => return format!(" btf={which}"),
+        Refused::Btf { which, .. } => return format!(" btf={which}"),
         Refused::Record { record, why, .. } => (*record, *why),
+        _ => return String::new(),
     };
     let keys: &[&str] = match why.number() {
         4 => &["kind"],
