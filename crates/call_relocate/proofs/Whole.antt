@@ -7,7 +7,7 @@ use mathlib.Core.List.{List, [], _∷_}
 use lib.ListN.{length}
 use types.Run.{OneOf, miss}
 use denote.Enum.Declared.{tagOf}
-use Rattle.btf_accept.proofs.Answer.{the-type}
+use Rattle.btf_accept.proofs.Reading.{the-type}
 use Rattle.btf_accept.specs.declared.Btf.{Btf}
 use Rattle.btf_accept.specs.declared.Reading.{Reading}
 use Rattle.btf_accept.specs.declared.Reading.the-variants.{Read, NoBtf, TooBig, TooShort}

@@ -20,7 +20,7 @@ ghost use Rattle.rules.specs.Call.{relocateRead};
 ghost use Rattle.call_report.specs.Reported.{reported, holding};
 ghost use Rattle.leamugi_numbers.specs.Numbers.{five, readNumbers, typeNumbers, entryNumbers};
 ghost use Rattle.leamugi_numbers.specs.Endings.{saidNumbers};
-ghost use Rattle.leamugi.specs.Calls.{lentRead, lengthOf, reportedNumbers, reportOf};
+ghost use Rattle.leamugi.specs.Calls.{lentRead, reportedFive, lengthOf, reportedNumbers, reportOf};
 
 // Reads bytes as a BTF. Answers document 01's number 0 to 3 and says beside it: 0, where types and strings begin and how
 // long they are, and the last id; 1, the id of the first fault; 3, the entries that the table needs.
