@@ -1,4 +1,6 @@
 // Bit offsets: sums and products that stay below 2^32. They are compared before they are made, so nothing wraps.
+#![tactic(auto)]
+
 ghost use Rattle.std.specs.Prelude.{◌≡◌, ◌+◌, ◌*◌};
 ghost use Rattle.rules.specs.Refusal.{bit_offset};
 ghost use Rattle.rules.specs.Access.{local_first_bits};

@@ -1,5 +1,7 @@
 // Where one part of an access string leads in the local types: the first index, a member, an element. Where a member or an
 // element lies is no other in the target's types.
+#![tactic(auto)]
+
 ghost use Rattle.std.specs.Prelude.{◌≡◌};
 ghost use Rattle.btf_view.specs.Lent.{lent};
 ghost use Rattle.rules.specs.Fields.{member_bits};

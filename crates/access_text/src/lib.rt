@@ -1,4 +1,6 @@
 // An access string taken apart: decimal numbers between colons, each as Rust parses a `usize`.
+#![tactic(auto)]
+
 ghost use Rattle.std.specs.Prelude.{◌≡◌, cond, ◌+◌, ◌≤◌, ltb, length, drop, set};
 ghost use Rattle.rules.specs.Access.{decimal, part, parse};
 ghost use Rattle.access_text.specs.Text.{one_digit, to_colon};

@@ -1,6 +1,8 @@
 // Where an access leads in the local types. For field kinds the parts lead through members and arrays:
 //     struct a { int x; struct b { int y; struct { int z[4]; }; } s; };
 //     "0:1:1:0:2" on a is ((struct a *)p)[0].s.z[2]: the accessors are [0], .s, .z, [2]; the unnamed struct's 1 adds its bits alone.
+#![tactic(auto)]
+
 ghost use Rattle.std.specs.Prelude.{◌≡◌, length, take};
 ghost use Rattle.btf_view.specs.Lent.{lent};
 ghost use Rattle.rules.specs.Refusal.{refused, bind};

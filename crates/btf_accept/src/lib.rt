@@ -2,6 +2,8 @@
 // not fit, and once to fill the table; nothing is copied. Where a type ends is known only once it is looked at, so that filling
 // is a chain of loads, each waiting for the one before. The first pass therefore keeps marks, and the table is filled from four
 // of them at once.
+#![tactic(auto)]
+
 ghost use Rattle.std.specs.Prelude.{◌≡◌, ◌+◌, ◌*◌, ◌-◌, ◌≤◌, ◌<◌, length, get_or, set};
 ghost use Rattle.btf_kinds.specs.Rows.{Columns};
 ghost use Rattle.btf_kinds.specs.Types.{type_bytes, after};

@@ -1,4 +1,6 @@
 // The type that stands at a place of some bytes, field by field, and an entry of it.
+#![tactic(auto)]
+
 ghost use Rattle.std.specs.Prelude.{◌≡◌, ◌+◌, ◌<◌};
 ghost use Rattle.word_read.specs.Num.{word};
 ghost use Rattle.btf_kinds.specs.Kinds.{entry};

@@ -1,4 +1,6 @@
 // What a kind's number says of a type.
+#![tactic(auto)]
+
 ghost use Rattle.std.specs.Prelude.{◌≡◌, get_or};
 ghost use Rattle.btf_kinds.specs.Rows.{row_in};
 ghost use Rattle.btf_kinds.specs.Kinds.{tail_of, encodes, has_size, has_type};
@@ -121,6 +123,7 @@ pub fn tail_of(kind: u32) -> Tail
 }
 
 // The rule case by case, as the kernel's BTF document tells it: the plain form that the table equals. No code calls it.
+#[tactic(auto, using(std::proofs::lemmas::Bool::Decides::nat_tests), unfolding(crate::specs::Kinds::extra_bytes, crate::specs::Kinds::entry_bytes))]
 pub fn tail_by_cases(kind: u32) -> Tail
     ensures { result ≡ tail_of kind }
 {
@@ -149,6 +152,7 @@ pub fn encoding_fine(x: u32) -> bool
 }
 
 // Whether a kind's third word is a size.
+#[tactic(auto, using(std::proofs::lemmas::Bool::Decides::nat_tests), unfolding(crate::specs::Kinds::has_size))]
 pub fn has_size(kind: u32) -> bool
     ensures { result ≡ has_size kind }
 {
@@ -163,6 +167,7 @@ pub fn has_size(kind: u32) -> bool
 }
 
 // Whether a kind's third word is a type's id.
+#[tactic(auto, using(std::proofs::lemmas::Bool::Decides::nat_tests), unfolding(crate::specs::Kinds::has_type))]
 pub fn has_type(kind: u32) -> bool
     ensures { result ≡ has_type kind }
 {

@@ -1,6 +1,8 @@
 // One type of a types section passed in one go: where the next begins, and how far its names and type ids reach. This is the
 // hottest code of reading: each word is one load, a kind is looked at once, and a list of names and types is read four entries a
 // turn.
+#![tactic(auto)]
+
 ghost use Rattle.std.specs.Prelude.{◌≡◌, ◌+◌, ◌*◌, ◌≤◌, ◌<◌, length};
 ghost use Rattle.word_read.specs.Num.{word};
 ghost use Rattle.btf_kinds.specs.Types.{type_at};

@@ -1,5 +1,7 @@
 // What stands at an id, by the table that a read has left, and names as parts of the bytes. Every reader answers for any
 // bytes and any table, as the view by the table says.
+#![tactic(auto)]
+
 ghost use Rattle.std.specs.Prelude.{◌≡◌, ◌<◌, get_or, length};
 ghost use Rattle.btf_accept.specs.Sections.{strings_in};
 ghost use Rattle.btf_view.specs.Text.{text_at};

@@ -1,4 +1,6 @@
 // One record: what was computed, applied to its instruction.
+#![tactic(auto)]
+
 ghost use Rattle.std.specs.Prelude.{◌≡◌};
 ghost use Rattle.btf_view.specs.Lent.{lent};
 ghost use Rattle.rules.specs.Record.{record_of, apply};

@@ -1,4 +1,6 @@
 // The block of a case after its report: the outcome, the instructions left, `end`.
+#![tactic(auto)]
+
 ghost use Rattle.std.specs.Prelude.{◌≡◌, [], ◌∷◌, ◌++◌};
 ghost use Rattle.rules.specs.Report.{in_decimal};
 ghost use Rattle.call_lines.specs.Pieces.{Wrote};

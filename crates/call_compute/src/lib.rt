@@ -1,4 +1,6 @@
 // What a record writes: its local access, its matches in the target, its value; no instruction is looked at.
+#![tactic(auto)]
+
 ghost use Rattle.std.specs.Prelude.{◌≡◌, ◌+◌, ◌*◌, take};
 ghost use Rattle.btf_view.specs.Lent.{lent};
 ghost use Rattle.rules.specs.Record.{accessed};

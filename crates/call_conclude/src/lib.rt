@@ -1,4 +1,6 @@
 // What is written, once the matches and the local value are known: the target's value, and the change of size.
+#![tactic(auto)]
+
 ghost use Rattle.std.specs.Prelude.{◌≡◌};
 ghost use Rattle.btf_view.specs.Lent.{lent};
 ghost use Rattle.rules.specs.Kinds.{asks_existence};

@@ -1,5 +1,7 @@
 // Section 9's report, piece by piece into a lent buffer. Every writer answers for any place: it writes what fits and returns
 // the next place, so over an empty buffer it counts.
+#![tactic(auto)]
+
 ghost use Rattle.std.specs.Prelude.{◌≡◌, [], ◌∷◌, ◌++◌, ◌+◌, min};
 ghost use Rattle.rules.specs.Refusal.{number};
 ghost use Rattle.rules.specs.Ascii.{ascii};

@@ -1,4 +1,6 @@
 // The records of a list, one by one, between two BTFs that were read before.
+#![tactic(auto)]
+
 ghost use Rattle.std.specs.Prelude.{◌≡◌};
 ghost use Rattle.btf_view.specs.Lent.{lent};
 ghost use Rattle.rules.specs.Call.{ended, shaped, run_of, relocate_read};

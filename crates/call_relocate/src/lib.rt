@@ -1,4 +1,6 @@
 // The whole call: both BTFs read from bytes, then the records of the list.
+#![tactic(auto)]
+
 ghost use Rattle.std.specs.Prelude.{◌≡◌, length};
 ghost use Rattle.btf_accept.specs.Table.{tabled};
 ghost use Rattle.btf_view.specs.Lent.{lent};

@@ -1,4 +1,6 @@
 // Section 9's report of a call that was made: the applied records' values by the two BTFs, then the refusal.
+#![tactic(auto)]
+
 ghost use Rattle.std.specs.Prelude.{◌≡◌, ◌≤◌, ◌+◌, ◌*◌, ◌-◌, ◌/◌, min, length};
 ghost use Rattle.btf_view.specs.Lent.{lent};
 ghost use Rattle.rules.specs.Record as rule;

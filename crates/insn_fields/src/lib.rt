@@ -1,6 +1,8 @@
 // One eBPF instruction (document 01, section 7; RFC 9669): eight bytes, code, destination (low) and source (high) register,
 // off in two, imm in four. Here are its fields, what a patch answers, and poison. Every function finds the instruction at the
 // front of the bytes that it is lent, and its successor behind it. Total: any bytes have an answer.
+#![tactic(auto)]
+
 ghost use Rattle.std.specs.Prelude.{◌≡◌};
 ghost use Rattle.rules.specs.Apply as apply;
 ghost use Rattle.insn_fields.specs.Patched.{patch_of, no_successor, invalid};

@@ -1,5 +1,7 @@
 // A load or store patched (document 01, section 7): its off, and the size that it gets. The instruction is at the front of the
 // bytes that are lent. Total: any bytes, any value and any change of size have an answer.
+#![tactic(auto)]
+
 ghost use Rattle.std.specs.Prelude.{◌≡◌, ◌≤◌};
 ghost use Rattle.rules.specs.Apply as apply;
 ghost use Rattle.insn_fields.specs.Patched.{patch_of};

@@ -1,6 +1,8 @@
 // One instruction patched (document 01, section 7; RFC 9669), by its class. `patch` lends the instructions from the patched one
 // onward; every function below it finds that one at the front, and its successor behind it. Total: any bytes and any index have
 // an answer.
+#![tactic(auto)]
+
 ghost use Rattle.std.specs.Prelude.{◌≡◌, ◌≤◌, length};
 ghost use Rattle.rules.specs.Apply as apply;
 ghost use Rattle.insn_fields.specs.Patched.{patch_of};

@@ -1,1 +1,2 @@
 // Definitions and theorems only: see specs/.
+#![tactic(auto)]

@@ -1,5 +1,7 @@
 // The exported calls, on numbers and slices: each hands over to a proved function and lays out what it said as numbers.
 // Every call answers for any bytes, any table and any numbers.
+#![tactic(auto)]
+
 ghost use Rattle.std.specs.Prelude.{◌≡◌, length};
 ghost use Rattle.std.proofs.lemmas.List.Edits.{sets};
 ghost use Rattle.btf_accept.specs.Table.{decode, tabled};

@@ -1,5 +1,7 @@
 // Answers as numbers, as the exported calls say them: what a reading said, and what stands at an id. And back: the BTF that the
 // numbers of a reading stand for. Any bytes, any table, any numbers get an answer.
+#![tactic(auto)]
+
 ghost use Rattle.std.specs.Prelude.{◌≡◌, length, set, get_or};
 ghost use Rattle.std.proofs.lemmas.List.Edits.{sets};
 ghost use Rattle.btf_accept.specs.Sections.{strings_in};

@@ -1,4 +1,6 @@
 // What one candidate gives: to a type as a whole, to a variant, to a path of fields.
+#![tactic(auto)]
+
 ghost use Rattle.std.specs.Prelude.{◌≡◌, ◌≤◌, cond, leb, take};
 ghost use Rattle.btf_view.specs.Lent.{lent};
 ghost use Rattle.value_member.specs.Replies.{reply_of};

@@ -1,4 +1,6 @@
 // What is kept of the candidates' matches, by what the record accesses: all target types, in id order from 0.
+#![tactic(auto)]
+
 ghost use Rattle.std.specs.Prelude.{◌≡◌, ◌+◌, ◌<◌, take};
 ghost use Rattle.btf_view.specs.Lent.{lent};
 ghost use Rattle.rules.specs.declared.Event.TheVariants.{Matched};

@@ -2,6 +2,8 @@
 //   local:  struct a { int n; struct { int z[4]; } s; };          the accessors of "0:1:0:2" are [0], .s, .z, [2]
 //   target: struct a { struct { long w; int z[8]; } s; };
 // From the target's a: [0] is at bit 0, .s at bit 0, .z at bit 64, [2] at bit 128.
+#![tactic(auto)]
+
 ghost use Rattle.std.specs.Prelude.{◌≡◌, ◌+◌, ◌<◌};
 ghost use Rattle.btf_view.specs.Lent.{lent};
 ghost use Rattle.rules.specs.Types.{resolve};

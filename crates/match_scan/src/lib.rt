@@ -1,4 +1,6 @@
 // The candidates: the target types of a kind and, but for flavours, a name, in id order.
+#![tactic(auto)]
+
 ghost use Rattle.std.specs.Prelude.{◌≡◌, suc, ◌-◌};
 ghost use Rattle.btf_view.specs.Lent.{lent};
 ghost use Rattle.match_scan.specs.Candidates.{candidate_by, first_from};

@@ -10,6 +10,8 @@
 // stands at bit 32. On the way back each level adds its member's bit offset and one part: bits 32, 32 + 0, 32 + 0 + 64,
 // and three parts more than before. That `pid` comes first is no matter; had an earlier member of any of the three been
 // named `y`, it would have decided.
+#![tactic(auto)]
+
 ghost use Rattle.std.specs.Prelude.{◌≡◌, ◌+◌, ◌<◌};
 ghost use Rattle.btf_view.specs.Lent.{lent};
 ghost use Rattle.rules.specs.Matching.{grown, decided};

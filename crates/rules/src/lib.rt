@@ -1,4 +1,5 @@
 // The words of document 01 as types: what the code answers is what the definitions beside this file speak of.
+#![tactic(auto)]
 
 // The kinds of records (LLVM's relocation document).
 pub const FIELD_BYTE_OFFSET: u32 = 0;

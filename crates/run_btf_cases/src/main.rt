@@ -1,6 +1,8 @@
 // What `read` answers to built-in bytes, a line a case: a BTF with one type of each kind, and edits of it on both sides of
 // each rule of document 01, sections 3 and 4. A line has what was edited, the number put there, and the answer's number and
 // value.
+#![tactic(auto)]
+
 use btf_accept::{Reading, read};
 use leamugi_numbers::reading_numbers;
 use word_put::{put_u8, put_u16, put_u32};

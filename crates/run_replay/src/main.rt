@@ -1,5 +1,7 @@
 // The fixed lists of cases (oracle/README.md) through the public call: how many cases there are, how many give the expected
 // block byte for byte, and which do not.
+#![tactic(auto)]
+
 ghost use Rattle.std.specs.Prelude.{◌≤◌};
 
 use btf_accept::{Whole, accept};

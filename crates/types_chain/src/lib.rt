@@ -1,5 +1,7 @@
 // Questions about one type, by id: where its chain of modifiers ends and how many bytes it has. Any bytes, any table get an
 // answer.
+#![tactic(auto)]
+
 ghost use Rattle.std.specs.Prelude.{◌≡◌, cond, ◌||◌, eqb, ◌/◌, ◌%◌, ◌^◌};
 ghost use Rattle.btf_view.specs.Lent.{lent};
 ghost use Rattle.rules.specs.Kinds.{is_modifier, is_composite, is_enum, sized_by_ref, alike};

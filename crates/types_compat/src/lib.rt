@@ -1,4 +1,6 @@
 // Whether two types are compatible: the local one's id and the target's. Any bytes, any tables get an answer.
+#![tactic(auto)]
+
 ghost use Rattle.std.specs.Prelude.{◌≡◌};
 ghost use Rattle.btf_view.specs.Lent.{lent};
 ghost use Rattle.rules.specs.Limits.{max_resolve_depth};

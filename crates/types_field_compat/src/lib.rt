@@ -1,5 +1,7 @@
 // Whether the types of two members are compatible: the local one's id and the target's. Any bytes, any tables get an
 // answer.
+#![tactic(auto)]
+
 ghost use Rattle.std.specs.Prelude.{◌≡◌, ◌&&◌, ◌||◌, eqb};
 ghost use Rattle.btf_view.specs.Lent.{lent};
 ghost use Rattle.rules.specs.Kinds.{is_composite, is_enum};

@@ -1,4 +1,6 @@
 // Whether two names are the same, byte for byte or but for flavours. Any bytes get an answer, names that no zero ends too.
+#![tactic(auto)]
+
 ghost use Rattle.std.specs.Prelude.{◌≡◌, get_or, drop};
 ghost use Rattle.btf_accept.specs.Sections.{strings_in};
 ghost use Rattle.btf_view.specs.Text.{text_at};

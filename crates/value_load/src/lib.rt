@@ -1,5 +1,7 @@
 // How a field is loaded: from which bytes, so many bits of them, and whether they have a sign. Any bytes, any table and any bit
 // offset get an answer.
+#![tactic(auto)]
+
 ghost use Rattle.std.specs.Prelude.{◌≡◌, ◌<◌};
 ghost use Rattle.std.proofs.Math.Option.{some};
 ghost use Rattle.btf_view.specs.Lent.{lent};

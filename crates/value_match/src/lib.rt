@@ -1,5 +1,7 @@
 // What a match is worth, by the record's kind: a field's value, a type's, a variant's. All are functions of the view alone:
 // no candidate is looked at, and no instruction. Any bytes, any table, any kind and any bit offset get an answer.
+#![tactic(auto)]
+
 ghost use Rattle.std.specs.Prelude.{◌≡◌};
 ghost use Rattle.btf_view.specs.Lent.{lent};
 ghost use Rattle.rules.specs.Refusal.{ok};

@@ -1,5 +1,7 @@
 // What a member of a type is worth, by the record's kind and by how it is loaded. Any bytes, any table, any kind and any bit
 // offset get an answer.
+#![tactic(auto)]
+
 ghost use Rattle.std.specs.Prelude.{◌≡◌, ◌*◌, ◌≤◌};
 ghost use Rattle.btf_view.specs.Lent.{lent};
 ghost use Rattle.rules.specs.Refusal.{ok};

@@ -1,5 +1,7 @@
 // Numbers of 1, 2 and 4 bytes written at a place, low byte first, and the bits of signed numbers. All are total, as the
 // definitions of `words` are: past the end a byte is not written.
+#![tactic(auto)]
+
 ghost use Rattle.std.specs.Prelude.{◌≡◌, set};
 ghost use Rattle.std.specs.Int.{w16, w32, w64};
 ghost use Rattle.std.proofs.Common.{of_z, to_z};

@@ -1,6 +1,8 @@
 // Numbers of 1, 2, 4 and 8 bytes at a place, low byte first, parts of bytes and bits of a number, read. All are total, as the
 // definitions are: past the end a byte reads as 0. The definitions of numbers written and signed stand here too, for the
 // rules to speak of; the code is in `put`.
+#![tactic(auto)]
+
 ghost use Rattle.std.specs.Prelude.{◌≡◌, ◌+◌, ◌≤◌, ◌<◌, length, get_or};
 ghost use Rattle.word_read.specs.Num.{little, num_at, half, word, section};
 ghost use Rattle.word_read.specs.Bits.{ones_masked};

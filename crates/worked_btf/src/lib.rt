@@ -1,1 +1,2 @@
 // Worked examples of the definitions, by computation: specs/ alone.
+#![tactic(auto)]

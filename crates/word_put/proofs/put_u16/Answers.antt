@@ -1,0 +1,13 @@
+-- `word_put::put_u16` meets its contract.
+use mathlib.Core.Path.{sym}
+use Rattle.word_read.specs.Num.{little}
+use Rattle.word_read.proofs.PutLaws.{past, bytes}
+use Rattle.word_put.proofs.put_u16.Goals as goal
+
+pub returns-then-at-bytes : goal.returns-then-at-bytes
+returns-then-at-bytes c =
+    let a = c.args in
+    bytes a.bytes.now a.at a.v c.ranges.v.fits c.put_u8.ensures c.put_u8-then-at-bytes.ensures
+
+pub returns-else-at-bytes : goal.returns-else-at-bytes
+returns-else-at-bytes c = let a = c.args in sym (past little 2 a.bytes.now a.at a.v c.if-at-bytes.false)

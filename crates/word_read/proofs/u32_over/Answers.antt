@@ -1,0 +1,13 @@
+-- `word_read::u32_over` meets its contract.
+use mathlib.Core.Path.{sym}
+use Rattle.word_read.specs.Num.{little}
+use Rattle.word_read.proofs.Laws.{halves, past}
+use Rattle.word_read.proofs.u32_over.Goals as goal
+
+pub returns-then-at-bytes : goal.returns-then-at-bytes
+returns-then-at-bytes c =
+    let a = c.args in
+    halves little 2 2 a.bytes.now a.at c.u16_at.ensures c.u16_at-then-at-bytes.ensures
+
+pub returns-else-at-bytes : goal.returns-else-at-bytes
+returns-else-at-bytes c = sym (past little 4 _ _ c.if-at-bytes.false)
