@@ -1,0 +1,7 @@
+-- `btf_fields::flag_at` meets its contract.
+use Rattle.btf_kinds.specs.Types.{type_at}
+use Rattle.btf_fields.proofs.flag_at.Goals as goal
+
+pub returns : goal.returns
+unfolding type_at
+returns c = rw c.word_at.ensures
