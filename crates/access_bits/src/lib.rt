@@ -10,7 +10,7 @@ ghost use Rattle.access_bits.specs.Replies.{bits_of};
 const GREATEST: u64 = 4294967295;
 
 // A bit offset, or 2^32 and more.
-#[derive(Drop)]
+#[derive(Clone, Copy)]
 pub enum Bits {
     At(u64),
     TooBig,

@@ -17,14 +17,14 @@ use rules::{Accessor, Refusal, Resolved, Sized, Step};
 use types_chain::{is_composite, resolve_type, type_size};
 
 // A step, or why there is none.
-#[derive(Drop)]
+#[derive(Clone, Copy)]
 pub enum Stepped {
     To(Step),
     Refused(Refusal),
 }
 
 // A bit offset, or why there is none.
-#[derive(Drop)]
+#[derive(Clone, Copy)]
 pub enum Placed {
     At(u64),
     Refused(Refusal),

@@ -10,13 +10,13 @@ const MAX_PARTS: usize = 64;
 
 const GREATEST: u64 = 18446744073709551615;
 
-#[derive(Drop)]
+#[derive(Clone, Copy)]
 pub enum Part {
     Number(u64),
     Invalid,
 }
 
-#[derive(Drop)]
+#[derive(Clone, Copy)]
 pub enum Parsing {
     Parts,
     Invalid,

@@ -27,7 +27,7 @@ pub struct Walk {
 }
 
 // What was accessed: a type as a whole; a variant, by its enum and index; a path of so many steps, and its bit offset.
-#[derive(Drop)]
+#[derive(Clone, Copy)]
 pub enum Reach {
     Whole,
     Variant(u32, u32),

@@ -100,10 +100,10 @@ module _ {t : List ℕ} {far top at n : ℕ} (left : ℕ) (s : Surveyed max_type
       outer false e = (s, omega arith, omega arith, inr (ltb-false at (length t) e))
 
 -- what every stretch of the first pass has come to
-pub stretch_came : {t : List ℕ} {far top at n : ℕ} (left : ℕ) → Surveyed max_types t far top at n → n + left ≤ max_types → Came t at n (n + left) (stretch_of t left at n far top)
+pub stretch_came : {t : List ℕ} (left : ℕ) {far top at n : ℕ} → Surveyed max_types t far top at n → n + left ≤ max_types → Came t at n (n + left) (stretch_of t left at n far top)
 unfolding stretch_of
-stretch_came {t} {far} {top} {at} {n} zero s h = (s, omega arith, omega arith, inl (omega arith))
-stretch_came {t} {far} {top} {at} {n} (suc left) s h =
+stretch_came {t} zero {far} {top} {at} {n} s h = (s, omega arith, omega arith, inl (omega arith))
+stretch_came {t} (suc left) {far} {top} {at} {n} s h =
     let r : n + 1 + left ≡ n + suc left = omega arith in
     turn-came left s h _ (λ l g. rw (← r) (stretch_came left (turn-next left s h l g) (omega arith)))
 

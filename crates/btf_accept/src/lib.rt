@@ -34,41 +34,41 @@ const STRIDE: u32 = 1024;
 
 const MARKS: usize = 1024;
 
-#[derive(Drop)]
+#[derive(Clone, Copy)]
 pub struct Place {
     pub start: usize,
     pub size: usize,
 }
 
 // Where the sections of some bytes lie, and the last id.
-#[derive(Drop)]
+#[derive(Clone, Copy)]
 pub struct Btf {
     pub types: Place,
     pub strings: Place,
     pub last: u32,
 }
 
-#[derive(Drop)]
+#[derive(Clone, Copy)]
 pub enum Head {
     Sections(Btf),
     Broken,
 }
 
 // Some types passed: where the next begins, how many in all, the highest name offset and the highest type id among all.
-#[derive(Drop)]
+#[derive(Clone, Copy)]
 pub enum Stretched {
     Passed(usize, u32, u32, u32),
     Stuck(u32),
 }
 
-#[derive(Drop)]
+#[derive(Clone, Copy)]
 pub enum Scan {
     Count(u32),
     Stop(u32),
     Many,
 }
 
-#[derive(Drop)]
+#[derive(Clone, Copy)]
 pub enum Whole {
     Accepted(Btf),
     // the id of the first fault, 0 for header and strings
@@ -76,7 +76,7 @@ pub enum Whole {
     Over,
 }
 
-#[derive(Drop)]
+#[derive(Clone, Copy)]
 pub enum Reading {
     Read(Btf),
     NoBtf(u32),

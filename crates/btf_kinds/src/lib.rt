@@ -54,13 +54,13 @@ pub const BTF_INT_ENCODINGS: u32 = 0x0700_0000;
 pub const BTF_INT_UNKNOWN: u32 = 0x0800_0000;
 
 // The bytes behind a type's twelve: those that come once, and those of each entry.
-#[derive(Drop)]
+#[derive(Clone, Copy)]
 pub struct Tail {
     pub once: u32,
     pub each: u32,
 }
 
-#[derive(Drop)]
+#[derive(Clone, Copy)]
 pub struct Entry {
     pub name: u32,
     pub typ: u32,

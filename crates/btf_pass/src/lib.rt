@@ -19,7 +19,7 @@ use btf_kinds::{
 const BTF_TYPE_BYTES: usize = 12;
 
 // One type passed: where the next begins, the highest name offset and the highest type id.
-#[derive(Drop)]
+#[derive(Clone, Copy)]
 pub enum Passing {
     Next(usize, u32, u32),
     Off,

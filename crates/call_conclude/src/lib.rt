@@ -19,14 +19,14 @@ use rules::{
 use value_member::{Valued, plain_value};
 
 // The target's value, or why the record is refused.
-#[derive(Drop)]
+#[derive(Clone, Copy)]
 pub enum Concluded {
     Worthy(Worth),
     Refused(Refusal),
 }
 
 // What a record writes, or why it is refused.
-#[derive(Drop)]
+#[derive(Clone, Copy)]
 pub enum Relocated {
     Writes(Write),
     Refused(Refusal),

@@ -16,7 +16,7 @@ use call_lines::{near, put_record};
 use rules::{Answer, Ending, Record, Said};
 
 // How many bytes were written, or nothing and how many are needed.
-#[derive(Drop)]
+#[derive(Clone, Copy)]
 pub enum Reported {
     Written(u64),
     Needed(u64),

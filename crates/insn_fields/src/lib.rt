@@ -57,7 +57,7 @@ const POISON_CODE: u8 = BPF_JMP + BPF_CALL;
 const POISON_IMM: i32 = 0x0bad2310;
 
 // The patch is done, or a refusal stopped it.
-#[derive(Drop)]
+#[derive(Clone, Copy)]
 pub enum Patched {
     Done,
     Stopped(Refusal),

@@ -15,7 +15,7 @@ use btf_accept::{Btf, Place, Reading};
 use btf_view::{count_of, entry_of, kind_of, name_of, ref_of, size_of, text_of};
 use rules::{Ending, Refusal, Which};
 // An answer's number and the five beside it.
-#[derive(Drop)]
+#[derive(Clone, Copy)]
 pub struct Numbers {
     pub number: u32,
     pub a: u64,

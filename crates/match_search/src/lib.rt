@@ -29,7 +29,7 @@ use types_field_compat::fields_are_compatible;
 use types_names::same_text;
 
 // The local member that is looked for, from a place of a candidate's walk.
-#[derive(Drop)]
+#[derive(Clone, Copy)]
 pub struct Wanted {
     pub candidate: u32,
     pub from: Target,

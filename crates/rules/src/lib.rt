@@ -39,7 +39,7 @@ pub const MAX_LEVELS: u32 = 32;
 pub const MAX_SPEC_LEN: u32 = 64;
 
 // Why a record is refused (section 3). Cases that hold nothing return the record.
-#[derive(Drop)]
+#[derive(Clone, Copy)]
 pub enum Refusal {
     // the kind
     KindTooBig(u32),
@@ -64,14 +64,14 @@ pub enum Refusal {
 }
 
 // Where a chain of modifiers ends: the first id that is none, or nowhere in the turns allowed.
-#[derive(Drop)]
+#[derive(Clone, Copy)]
 pub enum Resolved {
     At(u32),
     Endless,
 }
 
 // Why a type has no size.
-#[derive(Drop)]
+#[derive(Clone, Copy)]
 pub enum Why {
     ChainTooLong,
     KindWithoutSize,
@@ -79,14 +79,14 @@ pub enum Why {
 }
 
 // A size in bytes; or why there is none, and the id where it showed.
-#[derive(Drop)]
+#[derive(Clone, Copy)]
 pub enum Sized {
     Bytes(u32),
     Unsized(Why, u32),
 }
 
 // Whether two types are compatible, or why it cannot be told.
-#[derive(Drop)]
+#[derive(Clone, Copy)]
 pub enum Compat {
     Compatible,
     Different,
@@ -97,7 +97,7 @@ pub enum Compat {
 }
 
 // A step of an access: the named member `index` of the composite type `typ`, or the element `index` of type `typ`.
-#[derive(Drop)]
+#[derive(Clone, Copy)]
 pub struct Accessor {
     pub typ: u32,
     pub index: u64,
@@ -105,21 +105,21 @@ pub struct Accessor {
 }
 
 // A step of the local walk, to a type at a bit offset: by an accessor, or within an unnamed member by none.
-#[derive(Drop)]
+#[derive(Clone, Copy)]
 pub enum Step {
     By(Accessor, u32, u64),
     Within(u32, u64),
 }
 
 // The type that a value's size is compared by, where it has one.
-#[derive(Drop)]
+#[derive(Clone, Copy)]
 pub enum Typing {
     Typed(u32),
     Untyped,
 }
 
 // A value, with what is compared when a load or store is patched: the size of what lies at an offset, and its type.
-#[derive(Drop)]
+#[derive(Clone, Copy)]
 pub struct Value {
     pub number: u64,
     pub size: u32,
@@ -127,14 +127,14 @@ pub struct Value {
 }
 
 // A value, or none.
-#[derive(Drop)]
+#[derive(Clone, Copy)]
 pub enum Worth {
     Known(Value),
     Unknown,
 }
 
 // How a field is loaded: from a byte offset, this many bytes, of which it takes this many bits.
-#[derive(Drop)]
+#[derive(Clone, Copy)]
 pub struct Load {
     pub offset: u64,
     pub size: u64,
@@ -142,7 +142,7 @@ pub struct Load {
 }
 
 // A place in the target: the type come to, the accessor that led there, bits, and how many parts the access has by then.
-#[derive(Drop)]
+#[derive(Clone, Copy)]
 pub struct Target {
     pub typ: u32,
     pub last: Accessor,
@@ -151,7 +151,7 @@ pub struct Target {
 }
 
 // What a step in the target leads to.
-#[derive(Drop)]
+#[derive(Clone, Copy)]
 pub enum Search {
     Found(Target),
     Missing,
@@ -159,7 +159,7 @@ pub enum Search {
 }
 
 // What a candidate gives: nothing, a match at a bit offset with or without a value, or a refusal of the record.
-#[derive(Drop)]
+#[derive(Clone, Copy)]
 pub enum Event {
     Nothing,
     Matched(u64, Worth),
@@ -167,7 +167,7 @@ pub enum Event {
 }
 
 // What is kept of the matches: the first one's bit offset and value, the first conflicting id and how many conflict.
-#[derive(Drop)]
+#[derive(Clone, Copy)]
 pub enum Matches {
     Unmatched,
     Kept(u64, Worth, u32, u64),
@@ -176,7 +176,7 @@ pub enum Matches {
 
 // What a load or store of another size needs: nothing where the sizes are equal; no type on one side; types that cannot
 // be exchanged; this many bytes.
-#[derive(Drop)]
+#[derive(Clone, Copy)]
 pub enum Resize {
     Same,
     OneSided,
@@ -185,14 +185,14 @@ pub enum Resize {
 }
 
 // What is written: a value, with the change of size that a load or store needs; or poison.
-#[derive(Drop)]
+#[derive(Clone, Copy)]
 pub enum Write {
     Put(u64, Resize),
     Poison,
 }
 
 // A CO-RE record: its instruction's offset in the section, a type id, where its access string begins, a kind.
-#[derive(Drop)]
+#[derive(Clone, Copy)]
 pub struct Record {
     pub offset: u32,
     pub typ: u32,
@@ -201,7 +201,7 @@ pub struct Record {
 }
 
 // What a record is answered: applied with a value, applied with poison, or refused.
-#[derive(Drop)]
+#[derive(Clone, Copy)]
 pub enum Answer {
     Applied(u64),
     Poisoned,
@@ -209,7 +209,7 @@ pub enum Answer {
 }
 
 // Which of the two BTFs.
-#[derive(Drop)]
+#[derive(Clone, Copy)]
 pub enum Which {
     Local,
     Target,
@@ -217,7 +217,7 @@ pub enum Which {
 
 // How a call ends (section 3): every record applied; a bad BTF with the id of its first fault; a BTF over a limit; a lent
 // table too short, with the entries needed; a record refused, with its number in the list; bytes of a wrong shape.
-#[derive(Drop)]
+#[derive(Clone, Copy)]
 pub enum Ending {
     Done,
     BadBtf(Which, u32),
@@ -228,7 +228,7 @@ pub enum Ending {
 }
 
 // What a call says back: how it ended, and how many records were applied before.
-#[derive(Drop)]
+#[derive(Clone, Copy)]
 pub struct Said {
     pub ending: Ending,
     pub applied: u64,

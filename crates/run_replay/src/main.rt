@@ -21,7 +21,7 @@ const ENTRIES: usize = 2048;
 const SHOWN: u32 = 10;
 
 // What came of one case.
-#[derive(Drop)]
+#[derive(Clone, Copy)]
 enum Compared {
     Equal,
     Different,
@@ -30,7 +30,7 @@ enum Compared {
 }
 
 // How many bytes the parts of a case have, and the function's section offset.
-#[derive(Drop)]
+#[derive(Clone, Copy)]
 struct Head {
     local: usize,
     target: usize,

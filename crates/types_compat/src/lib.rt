@@ -17,7 +17,7 @@ use rules::{Compat, MAX_RESOLVE_DEPTH, MAX_STEPS, Resolved};
 use types_chain::{ints_agree, is_composite, is_enum, kinds_alike, resolve_type};
 
 // What two types ask for, once their modifiers are skipped.
-#[derive(Drop)]
+#[derive(Clone, Copy)]
 enum Descent {
     // nothing more
     Done(Compat),

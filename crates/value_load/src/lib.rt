@@ -24,7 +24,7 @@ const WIDEST: u64 = 8;
 const TRIES: u32 = 4;
 
 // How a bitfield is loaded, if it can be.
-#[derive(Drop)]
+#[derive(Clone, Copy)]
 pub enum Loaded {
     By(Load),
     Nowhere,

@@ -22,7 +22,7 @@ use value_load::{Loaded, bitfield_of, plain_load, signedness_of};
 // The bits of a register.
 const REGISTER: u64 = 64;
 
-#[derive(Drop)]
+#[derive(Clone, Copy)]
 pub enum Valued {
     Known(Value),
     Refused(Refusal),
