@@ -24,7 +24,7 @@ pub enum Parsing {
 }
 
 // The parts of an access string, of which `count` count where the answer is `Parts`.
-#[derive(Drop)]
+#[derive(Clone, Copy)]
 pub struct Parsed {
     pub answer: Parsing,
     pub count: usize,

@@ -18,7 +18,7 @@ use rules::{Accessor, FIELD_RSHIFT, Refusal, Step, TYPE_SIZE};
 use types_chain::is_enum;
 
 // Where a walk has come to: a type, by the first `count` of the steps, at a bit offset.
-#[derive(Drop)]
+#[derive(Clone, Copy)]
 pub struct Walk {
     pub typ: u32,
     pub count: usize,
@@ -35,7 +35,7 @@ pub enum Reach {
     Refused(Refusal),
 }
 
-#[derive(Drop)]
+#[derive(Clone, Copy)]
 pub struct Accessed {
     pub reach: Reach,
     pub steps: [Accessor; 64],

@@ -1,47 +1,50 @@
 -- The refusals that return their record, and the endings that return nothing.
 -- Assumes nothing.
 use mathlib.Core.Path.{◌≡◌, refl}
-use mathlib.Core.List.{List, [], ◌∷◌}
+use mathlib.Core.List.{[]}
 use Prim.Native.Nat.{ℕ}
-use types.Run.{OneOf, miss}
-use denote.Enum.Declared.{tag_of}
 use Rattle.rules.specs.declared.Refusal.{Refusal}
 use Rattle.rules.specs.declared.Refusal.TheVariants.{KindTooBig, NotInFunction, NoSuccessor, BadAccess, IndexTooBig, WrongKind, Conflict, MaximumNesting, BadInstruction, NoMatch, Unresolved}
 use Rattle.rules.specs.declared.Refusal.TheVariants.{TooManyParts, BitsTooBig, TooDeep}
+use Rattle.rules.specs.declared.Which.{Which}
 use Rattle.rules.specs.declared.Ending.{Ending}
 use Rattle.rules.specs.declared.Ending.TheVariants.{Done, BadBtf, OverLimit, TableShort, Stopped, Misshapen}
-use Rattle.rules.specs.contracts.Refusal as R
-use Rattle.rules.specs.contracts.Ending as E
 use Rattle.call_block.specs.Block.{field, refusal_shown, ending_shown}
 
-abbrev returning : List ℕ
-returning = 1 ∷ 3 ∷ 5 ∷ 9 ∷ 10 ∷ 11 ∷ 12 ∷ 13 ∷ []
-
-pub the_record : (k : ℕ) (r : Refusal) → OneOf returning (tag_of R.the_type r) → field " record=" k ≡ refusal_shown k r
+pub the_record : (k : ℕ) (r : Refusal)
+    → ((n : ℕ) → r ≡ KindTooBig n → ⊥)
+    → ((i : ℕ) → r ≡ NoSuccessor i → ⊥)
+    → ((i n : ℕ) → r ≡ IndexTooBig i n → ⊥)
+    → ((i n : ℕ) → r ≡ Conflict i n → ⊥)
+    → ((i : ℕ) → r ≡ MaximumNesting i → ⊥)
+    → ((w : ℕ) → r ≡ BadInstruction w → ⊥)
+    → field " record=" k ≡ refusal_shown k r
 unfolding refusal_shown
-the_record k (KindTooBig n) h = absurd (miss returning 0 tt h)
-the_record k NotInFunction h = refl
-the_record k (NoSuccessor i) h = absurd (miss returning 2 tt h)
-the_record k BadAccess h = refl
-the_record k (IndexTooBig i n) h = absurd (miss returning 4 tt h)
-the_record k WrongKind h = refl
-the_record k (Conflict i n) h = absurd (miss returning 6 tt h)
-the_record k (MaximumNesting i) h = absurd (miss returning 7 tt h)
-the_record k (BadInstruction w) h = absurd (miss returning 8 tt h)
-the_record k NoMatch h = refl
-the_record k Unresolved h = refl
-the_record k TooManyParts h = refl
-the_record k BitsTooBig h = refl
-the_record k TooDeep h = refl
+the_record k (KindTooBig n) h _ _ _ _ _ = absurd (h n refl)
+the_record k NotInFunction _ _ _ _ _ _ = refl
+the_record k (NoSuccessor i) _ h _ _ _ _ = absurd (h i refl)
+the_record k BadAccess _ _ _ _ _ _ = refl
+the_record k (IndexTooBig i n) _ _ h _ _ _ = absurd (h i n refl)
+the_record k WrongKind _ _ _ _ _ _ = refl
+the_record k (Conflict i n) _ _ _ h _ _ = absurd (h i n refl)
+the_record k (MaximumNesting i) _ _ _ _ h _ = absurd (h i refl)
+the_record k (BadInstruction w) _ _ _ _ _ h = absurd (h w refl)
+the_record k NoMatch _ _ _ _ _ _ = refl
+the_record k Unresolved _ _ _ _ _ _ = refl
+the_record k TooManyParts _ _ _ _ _ _ = refl
+the_record k BitsTooBig _ _ _ _ _ _ = refl
+the_record k TooDeep _ _ _ _ _ _ = refl
 
-abbrev silent : List ℕ
-silent = 0 ∷ 5 ∷ []
-
-pub nothing-more : (e : Ending) → OneOf silent (tag_of E.the_type e) → [] ≡ ending_shown e
+pub nothing-more : (e : Ending)
+    → ((w : Which) (i : ℕ) → e ≡ BadBtf w i → ⊥)
+    → ((w : Which) → e ≡ OverLimit w → ⊥)
+    → ((w : Which) (n : ℕ) → e ≡ TableShort w n → ⊥)
+    → ((k : ℕ) (r : Refusal) → e ≡ Stopped k r → ⊥)
+    → [] ≡ ending_shown e
 unfolding ending_shown
-nothing-more Done h = refl
-nothing-more (BadBtf w i) h = absurd (miss silent 1 tt h)
-nothing-more (OverLimit w) h = absurd (miss silent 2 tt h)
-nothing-more (TableShort w n) h = absurd (miss silent 3 tt h)
-nothing-more (Stopped k r) h = absurd (miss silent 4 tt h)
-nothing-more Misshapen h = refl
+nothing-more Done _ _ _ _ = refl
+nothing-more (BadBtf w i) h _ _ _ = absurd (h w i refl)
+nothing-more (OverLimit w) _ h _ _ = absurd (h w refl)
+nothing-more (TableShort w n) _ _ h _ = absurd (h w n refl)
+nothing-more (Stopped k r) _ _ _ h = absurd (h k r refl)
+nothing-more Misshapen _ _ _ _ = refl

@@ -7,9 +7,6 @@ use native.Mathlib.Omega.{arith}
 use lib.ListN.{length, get_or, take}
 use lib.Seq.{take_all}
 use borrow.Author.Tests.{eq-eqb, ne_eqb, lt-ltb, le-ltb, le-leb, lt-leb}
-use types.Run.{OneOf, miss}
-use denote.Enum.Declared.{tag_of}
-use Rattle.access_walk.specs.contracts.Reach.{the_type}
 use Rattle.access_walk.specs.declared.Reach.{Reach}
 use Rattle.access_walk.specs.declared.Reach.TheVariants as Reach
 use Rattle.access_walk.specs.Replies.{access_by}
@@ -86,24 +83,24 @@ module _ (L T : View) (r : Record) where
       let h' : k ≡ matches L T r a m = h ∙ rw f in
       sym (rw (← e, f, ne_eqb r.kind type_id_local n, ← g', ← h', ← i, ← j))
 
-  module _ (reach : Reach) (steps : List Accessor) (keys : OneOf (0 ∷ 1 ∷ 2 ∷ []) (tag_of the_type reach)) (e : access_by reach steps ≡ accessed L r) where
+  module _ (reach : Reach) (steps : List Accessor) (keys : (q : Refusal) → reach ≡ Reach.Refused q → ⊥) (e : access_by reach steps ≡ accessed L r) where
     pub write-own : r.kind ≡ type_id_local → ok (Put r.typ Same) ≡ relocated L T r
     write-own k = go reach keys e
       where
-        go : (y : Reach) → OneOf (0 ∷ 1 ∷ 2 ∷ []) (tag_of the_type y) → access_by y steps ≡ accessed L r → ok (Put r.typ Same) ≡ relocated L T r
+        go : (y : Reach) → ((q : Refusal) → y ≡ Reach.Refused q → ⊥) → access_by y steps ≡ accessed L r → ok (Put r.typ Same) ≡ relocated L T r
         go Reach.Whole h d = own_id_lem whole refl d k
         go (Reach.Variant i n) h d = own_id_lem (variant i n) refl d k
         go (Reach.Path n b) h d = own_id_lem (path (take n steps) b) refl d k
-        go (Reach.Refused q) h d = absurd (miss (0 ∷ 1 ∷ 2 ∷ []) 3 tt h)
+        go (Reach.Refused q) h d = absurd (h q refl)
 
     pub write-matched : (r.kind ≡ type_id_local → ⊥) → {m : Reply Value} → m ≡ bind (access_by reach steps) (local_value L.typ r.kind)
         → {k : Matches} → k ≡ matches_of L T r (access_by reach steps) m → {w : Reply Worth} → w ≡ conclude r.kind k
         → {o : Reply Write} → o ≡ computed L.typ T.typ m w → o ≡ relocated L T r
     write-matched n {m} g {k} h {w} i {o} j = go reach keys e g h
       where
-        go : (y : Reach) → OneOf (0 ∷ 1 ∷ 2 ∷ []) (tag_of the_type y) → access_by y steps ≡ accessed L r
+        go : (y : Reach) → ((q : Refusal) → y ≡ Reach.Refused q → ⊥) → access_by y steps ≡ accessed L r
             → m ≡ bind (access_by y steps) (local_value L.typ r.kind) → k ≡ matches_of L T r (access_by y steps) m → o ≡ relocated L T r
         go Reach.Whole t d a b = by-matches whole refl d n a b i j
         go (Reach.Variant x z) t d a b = by-matches (variant x z) refl d n a b i j
         go (Reach.Path x z) t d a b = by-matches (path (take x steps) z) refl d n a b i j
-        go (Reach.Refused q) t d a b = absurd (miss (0 ∷ 1 ∷ 2 ∷ []) 3 tt t)
+        go (Reach.Refused q) t d a b = absurd (t q refl)

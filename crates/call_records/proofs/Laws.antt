@@ -1,24 +1,14 @@
--- The laws of a list of records: an answer that goes on, the shape of the call.
+-- The laws of a list of records: the shape of the call.
 -- Assumes nothing.
 use Prim.Native.Nat.{ℕ}
-use mathlib.Core.Path.{◌≡◌, sym, ap, subst, ◌∙◌}
+use mathlib.Core.Path.{◌≡◌, sym, ap, ◌∙◌}
 use mathlib.Core.Bool.{Bool, true, false}
-use mathlib.Core.List.{List, [], ◌∷◌}
-use types.Run.{OneOf, miss}
-use denote.Enum.Declared.{tag_of}
+use mathlib.Core.List.{List}
 use Rattle.btf_view.specs.View.{View}
-use Rattle.rules.specs.contracts.Answer.{the_type}
-use Rattle.rules.specs.declared.Refusal.{Refusal}
-use Rattle.rules.specs.declared.Answer.{Answer}
-use Rattle.rules.specs.declared.Answer.TheVariants.{Refused}
 use Rattle.rules.specs.declared.Ending.TheVariants.{Misshapen}
 use Rattle.rules.specs.declared.Said.{Said}
 use Rattle.rules.specs.Call.{ended, Effect, run_of, shaped, relocate_read}
 use Rattle.call_records.specs.Run.{effect_of}
-
--- an answer that is none of the refusals
-pub not_refused : (a : Answer) → OneOf (0 ∷ 1 ∷ []) (tag_of the_type a) → (q : Refusal) → a ≡ Refused q → ⊥
-not_refused a h q e = miss (0 ∷ 1 ∷ []) 2 tt (subst (λ (b : Answer). OneOf (0 ∷ 1 ∷ []) (tag_of the_type b)) e h)
 
 -- BTFs that were read before
 module _ (L T : View) (xs : List ℕ) (section : ℕ) (rs : List ℕ) {b : Bool} (e : b ≡ shaped xs section rs) where

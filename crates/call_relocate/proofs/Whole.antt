@@ -5,9 +5,6 @@ use mathlib.Core.Path.{◌≡◌, refl, sym, ap, ◌∙◌}
 use mathlib.Core.Bool.{Bool, true, false}
 use mathlib.Core.List.{List, [], ◌∷◌}
 use lib.ListN.{length}
-use types.Run.{OneOf, miss}
-use denote.Enum.Declared.{tag_of}
-use Rattle.btf_accept.specs.contracts.Reading.{the_type}
 use Rattle.btf_accept.specs.declared.Btf.{Btf}
 use Rattle.btf_accept.specs.declared.Reading.{Reading}
 use Rattle.btf_accept.specs.declared.Reading.TheVariants.{Read, NoBtf, TooBig, TooShort}
@@ -25,17 +22,17 @@ use Rattle.call_relocate.specs.Reading.{unread_of, on_target}
 
 -- a reading that is none
 abbrev Unread : Reading → Type 0
-Unread a = OneOf (1 ∷ 2 ∷ 3 ∷ []) (tag_of the_type a)
+Unread a = (b : Btf) → a ≡ Read b → ⊥
 
 -- what follows on a BTF that is not read
 unread_then : (w : Which) (xs : List ℕ) (a : Reading) (next : Btf → Effect) → Unread a → read_then w xs a next ≡ unrun (unread_of w a) xs
-unread_then w xs (Read b) next h = absurd (miss (1 ∷ 2 ∷ 3 ∷ []) 0 tt h)
+unread_then w xs (Read b) next h = absurd (h b refl)
 unread_then w xs (NoBtf i) next h = refl
 unread_then w xs TooBig next h = refl
 unread_then w xs (TooShort n) next h = refl
 
 not_read : (a : Reading) → Unread a → is_read a ≡ false
-not_read (Read b) h = absurd (miss (1 ∷ 2 ∷ 3 ∷ []) 0 tt h)
+not_read (Read b) h = absurd (h b refl)
 not_read (NoBtf i) h = refl
 not_read TooBig h = refl
 not_read (TooShort n) h = refl

@@ -78,7 +78,7 @@ pub fn no_successor(index: u32) -> Patched
 }
 
 pub fn has_successor(insns: &[u8]) -> bool
-    ensures { result ≡ apply.hasSlot insns.now 1 }
+    ensures { result ≡ apply.has_slot insns.now 1 }
 {
     insns.len() >= 2 * INSN_SIZE
 }

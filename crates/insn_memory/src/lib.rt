@@ -26,7 +26,7 @@ const TYPE_ONE_SIDED: u32 = 6;
 // Other size bits; mode and class stay.
 fn put_size_bits(insns: &mut [u8], bits: u8) -> Patched
     requires { bits ≤ 24 }
-    ensures { patch_of result insns.new ≡ apply.done (apply.withSize insns.old bits) }
+    ensures { patch_of result insns.new ≡ apply.done (apply.with_size insns.old bits) }
 {
     let code = u8_at(insns, CODE);
     put_u8(insns, CODE, code / 32 * 32 + bits + code % 8);
@@ -59,7 +59,7 @@ fn resize(insns: &mut [u8], change: Resize) -> Patched
 
 // A load or store: the offset is written before the size is looked at.
 pub fn patch_memory(insns: &mut [u8], value: u64, change: Resize) -> Patched
-    ensures { patch_of result insns.new ≡ apply.patchMemory insns.old value change }
+    ensures { patch_of result insns.new ≡ apply.patch_memory insns.old value change }
 {
     if value > MAX_OFF {
         return bad_instruction(OFFSET_TOO_BIG);

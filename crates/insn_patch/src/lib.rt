@@ -38,7 +38,7 @@ fn high(value: u64) -> u32
 
 // An immediate operand takes the low half.
 fn patch_alu(insns: &mut [u8], value: u64) -> Patched
-    ensures { patch_of result insns.new ≡ apply.patchAlu insns.old value }
+    ensures { patch_of result insns.new ≡ apply.patch_alu insns.old value }
 {
     if u8_at(insns, REGISTERS) / 16 != 0 {
         return bad_instruction(SOURCE_REGISTER);
@@ -49,7 +49,7 @@ fn patch_alu(insns: &mut [u8], value: u64) -> Patched
 
 // A 64-bit immediate: the low half here, the high half in the successor.
 fn patch_wide(insns: &mut [u8], index: u32, value: u64) -> Patched
-    ensures { patch_of result insns.new ≡ apply.patchWide insns.old index value }
+    ensures { patch_of result insns.new ≡ apply.patch_wide insns.old index value }
 {
     put_imm(insns, low(value));
     if has_successor(insns) {
@@ -61,7 +61,7 @@ fn patch_wide(insns: &mut [u8], index: u32, value: u64) -> Patched
 
 // A value, by the instruction's class.
 fn patch_value(insns: &mut [u8], index: u32, value: u64, change: Resize) -> Patched
-    ensures { patch_of result insns.new ≡ apply.patchClass (apply.class (apply.code insns.old))
+    ensures { patch_of result insns.new ≡ apply.patch_class (apply.class (apply.code insns.old))
         insns.old index value change }
 {
     match u8_at(insns, CODE) % 8 {
@@ -73,7 +73,7 @@ fn patch_value(insns: &mut [u8], index: u32, value: u64, change: Resize) -> Patc
 }
 
 fn patch_front(insns: &mut [u8], index: u32, write: Write) -> Patched
-    ensures { patch_of result insns.new ≡ apply.patchFront insns.old index write }
+    ensures { patch_of result insns.new ≡ apply.patch_front insns.old index write }
 {
     match write {
         Write::Poison => poison(insns, index),

@@ -106,7 +106,12 @@ module _ {T E : View} (cl : Closed T) (ex : Extends T E) where
   types_within_grow L (suc left) own a b h =
       let step = meet_grow (types_within L T.typ left (own - 1)) (types_within L E.typ left (own - 1)) (types_within L T.typ left max_resolve_depth)
       (types_within L E.typ left max_resolve_depth) (types_within_grow L left (own - 1)) (types_within_grow L left max_resolve_depth) in
-      rw (resolve_grow b h) (ap (cond (eqb own 0) Broken) (both_grow L _ _ step (resolve L a) (resolve T.typ b) (resolve-low cl b h)))
+      rw (resolve_grow b h)
+      (ap (cond (eqb own 0) Broken)
+      (both_grow L
+      (meet (types_within L T.typ left (own - 1)) (types_within L T.typ left max_resolve_depth))
+      (meet (types_within L E.typ left (own - 1)) (types_within L E.typ left max_resolve_depth))
+      step (resolve L a) (resolve T.typ b) (resolve-low cl b h)))
 
   pub types_grow : (L : ℕ → Ty) (a b : ℕ) → b ≤ T.count → types_compatible L E.typ a b ≡ types_compatible L T.typ a b
   unfolding types_compatible
@@ -122,7 +127,9 @@ module _ {T E : View} (cl : Closed T) (ex : Extends T E) where
   fields_within_grow L zero a b h = refl
   fields_within_grow L (suc own) a b h =
       let step = meet_fields_grow L.text (fields_within L T own) (fields_within L E own) (fields_within_grow L own) in
-      rw (resolve_grow b h) (both_grow L.typ _ _ step (resolve L.typ a) (resolve T.typ b) (resolve-low cl b h))
+      rw (resolve_grow b h)
+      (both_grow L.typ (meet_fields (fields_within L T own) L.text T.text) (meet_fields (fields_within L E own) L.text E.text) step
+      (resolve L.typ a) (resolve T.typ b) (resolve-low cl b h))
 
   pub fields_grow : (L : View) (a b : ℕ) → b ≤ T.count → fields_compatible L E a b ≡ fields_compatible L T a b
   unfolding fields_compatible

@@ -10,14 +10,11 @@ use lib.Dec.{leb}
 use lib.ListN.{length, get_or, take, drop, drop_of_length-le}
 use lib.Seq.{drop-cons, get_or-take, length-take-le, take_all}
 use borrow.Author.Tests.{leb-false}
-use types.Run.{OneOf, miss}
-use denote.Enum.Declared.{tag_of}
 use Rattle.btf_view.specs.View.{View}
 use Rattle.rules.specs.declared.Accessor.{Accessor}
 use Rattle.rules.specs.declared.Target.{Target}
 use Rattle.rules.specs.declared.Search.{Search}
 use Rattle.rules.specs.declared.Search.TheVariants.{Found, Missing, Failed}
-use Rattle.rules.specs.contracts.Search.{the_type}
 use Rattle.rules.specs.Access.{nowhere}
 use Rattle.rules.specs.Matching.{next, origin, field_match}
 use Rattle.match_follow.specs.Walk.{accessor_step}
@@ -61,8 +58,8 @@ following-first L T steps n i {m} g e r l o =
     rw o (record { room = r; long = l; few = omega arith; rest = sym (walked L T (take m steps) i some) ∙ rw (bounded n steps e l) })
 
 -- Anything but a place ends the walk.
-next-ends : (x : Search) (go : Target → Search) → OneOf (1 ∷ 2 ∷ []) (tag_of the_type x) → next x go ≡ x
-next-ends (Found s) go h = absurd (miss (1 ∷ 2 ∷ []) 0 tt h)
+next-ends : (x : Search) (go : Target → Search) → ((t : Target) → x ≡ Found t → ⊥) → next x go ≡ x
+next-ends (Found s) go h = absurd (h s refl)
 next-ends Missing go h = refl
 next-ends (Failed r) go h = refl
 
@@ -81,7 +78,7 @@ module _ {L T : View} {steps : List Accessor} {n i m : ℕ} {s : Target} {j : �
         let g : j < length (take m steps) = omega (arith, count) in
         rw q (rw (drop-cons (take m steps) j nowhere g, get_or-take m steps j nowhere h) at v.rest)
 
-    pub following-stop : OneOf (1 ∷ 2 ∷ []) (tag_of the_type step) → step ≡ field_match L T (take n steps) i
+    pub following-stop : ((t : Target) → step ≡ Found t → ⊥) → step ≡ field_match L T (take n steps) i
     following-stop o = sym (next-ends step _ o) ∙ turned
 
     pub following-next : {u : Target} → step ≡ Found u → Following L T steps n i m u (j + 1)

@@ -8,15 +8,12 @@ use native.Mathlib.Omega.{arith}
 use native.Mathlib.Numerals.{add-one}
 use lib.ListN.{length, drop, drop_of_length-le}
 use borrow.Author.Tests.{eq-eqb, ne_eqb}
-use types.Run.{OneOf, miss}
-use denote.Enum.Declared.{tag_of}
 use Rattle.btf_kinds.specs.declared.Entry.{Entry}
 use Rattle.btf_view.specs.View.{View}
 use Rattle.rules.specs.declared.Resolved.TheVariants.{At, Endless}
 use Rattle.rules.specs.declared.Compat.{Compat}
 use Rattle.rules.specs.declared.Search.{Search}
 use Rattle.rules.specs.declared.Search.TheVariants.{Found, Missing, Failed}
-use Rattle.rules.specs.contracts.Search.{the_type}
 use Rattle.rules.specs.declared.Refusal.TheVariants.{MaximumNesting, Unresolved, TooDeep}
 use Rattle.rules.specs.Kinds.{is_composite}
 use Rattle.rules.specs.Limits.{max_spec_len}
@@ -50,9 +47,9 @@ empty-no [] h = absurd (h refl)
 empty-no (x ∷ xs) h = refl
 
 -- Anything but nothing ends the level.
-or_else-ends : (x rest : Search) → OneOf (0 ∷ 2 ∷ []) (tag_of the_type x) → or_else x rest ≡ x
+or_else-ends : (x rest : Search) → (x ≡ Missing → ⊥) → or_else x rest ≡ x
 or_else-ends (Found s) rest h = refl
-or_else-ends Missing rest h = absurd (miss (0 ∷ 2 ∷ []) 1 tt h)
+or_else-ends Missing rest h = absurd (h refl)
 or_else-ends (Failed r) rest h = refl
 
 search-level : (fits : ℕ → Compat) (T : View) (q : Sought) (levels i : ℕ) → search fits T q levels i ≡ members_of (deeper fits T q levels) fits T q (resolve T.typ i)
@@ -125,7 +122,7 @@ module _ {L T : View} {w : Wanted} {levels id i : ℕ} {name : List ℕ} {n k : 
         back : or_else up (remaining L T w levels i (suc k)) ≡ searched L T w levels id
         back = rw (u, y, x) (rw (empty-yes text z, deeper-less _ T (sought L w) levels e.typ l) at tried)
 
-        pub searching-back : OneOf (0 ∷ 2 ∷ []) (tag_of the_type up) → up ≡ searched L T w levels id
+        pub searching-back : (up ≡ Missing → ⊥) → up ≡ searched L T w levels id
         searching-back o = sym (or_else-ends up _ o) ∙ back
 
         pub searching-past : up ≡ Missing → Searching L T w levels id i name n (k + 1)

@@ -2,20 +2,23 @@
 // block byte for byte, and which do not.
 #![tactic(auto)]
 
-ghost use Rattle.std.specs.Prelude.{◌≤◌};
+ghost use Rattle.std.specs.Prelude.{◌≤◌, IfOk};
 
 use btf_accept::{Whole, accept};
 use call_block::put_tail;
 use call_relocate::relocate;
 use call_report::{Reported, report};
-use check::same;
-use io::{large_buffer, print_decimal, read_full, write_all};
-use libc::STDOUT_FILENO;
 use rules::Said;
+use std::fs::File;
+use std::io;
+use std::io::Read;
 use word_read::{part, u32_at, u64_at};
 
 // So many entries a case's BTF needs at most.
 const ENTRIES: usize = 2048;
+
+// So many bytes a part of a case has at most.
+const PART: usize = 65536;
 
 // So many of the cases that differ are named.
 const SHOWN: u32 = 10;
@@ -90,12 +93,26 @@ fn put_block(
     put_tail(out, at, said, insns)
 }
 
-// The bytes of a part, read into a buffer's front.
-fn read_part(fd: i32, buffer: &mut [u8], size: usize) -> bool {
-    if size > buffer.len() {
-        return false;
+// Fills a buffer; says how many bytes were there, fewer where the list ends.
+fn read_full(list: &mut File, buffer: &mut [u8]) -> io::Result<usize> {
+    let mut done = 0;
+    while done < buffer.len() {
+        let n = list.read(&mut buffer[done..])?;
+        if n == 0 {
+            break;
+        }
+        done += n;
     }
-    read_full(fd, &mut buffer[..size]) == size
+    Ok(done)
+}
+
+// The bytes of a part, read into a buffer's front: whether they are all there.
+fn read_part(list: &mut File, buffer: &mut [u8], size: usize) -> io::Result<bool> {
+    if size > buffer.len() {
+        return Ok(false);
+    }
+    let n = read_full(list, &mut buffer[..size])?;
+    Ok(n == size)
 }
 
 // The block of a case whose instructions take the front of a buffer, compared with the expected one.
@@ -111,7 +128,7 @@ fn gives(
     if size > insns.len() {
         return false;
     }
-    let mut out = large_buffer();
+    let mut out = [0u8; PART];
     let n = put_block(
         local,
         target,
@@ -120,45 +137,45 @@ fn gives(
         records,
         &mut out,
     );
-    same(part(&out, 0, n as usize), block)
+    part(&out, 0, n as usize) == block
 }
 
 // The head of a case: how long its parts are. A list that ends here gives parts that cannot be read.
-fn read_head(fd: i32) -> Head {
+fn read_head(list: &mut File) -> io::Result<Head> {
     let mut head = [0xffu8; 32];
-    read_part(fd, &mut head, 32);
-    Head {
+    read_part(list, &mut head, 32)?;
+    Ok(Head {
         local: u32_at(&head, 0) as usize,
         target: u32_at(&head, 4) as usize,
         insns: u32_at(&head, 8) as usize,
         records: u32_at(&head, 12) as usize,
         section: u64_at(&head, 16),
         block: u32_at(&head, 24) as usize,
-    }
+    })
 }
 
 // The next case of a list.
-fn next_case(fd: i32) -> Compared {
-    let head = read_head(fd);
-    let mut local = large_buffer();
-    let mut target = large_buffer();
-    let mut insns = large_buffer();
-    let mut records = large_buffer();
-    let mut block = large_buffer();
-    if !read_part(fd, &mut local, head.local) {
-        return Compared::Broken;
+fn next_case(list: &mut File) -> io::Result<Compared> {
+    let head = read_head(list)?;
+    let mut local = [0u8; PART];
+    let mut target = [0u8; PART];
+    let mut insns = [0u8; PART];
+    let mut records = [0u8; PART];
+    let mut block = [0u8; PART];
+    if !read_part(list, &mut local, head.local)? {
+        return Ok(Compared::Broken);
     }
-    if !read_part(fd, &mut target, head.target) {
-        return Compared::Broken;
+    if !read_part(list, &mut target, head.target)? {
+        return Ok(Compared::Broken);
     }
-    if !read_part(fd, &mut insns, head.insns) {
-        return Compared::Broken;
+    if !read_part(list, &mut insns, head.insns)? {
+        return Ok(Compared::Broken);
     }
-    if !read_part(fd, &mut records, head.records) {
-        return Compared::Broken;
+    if !read_part(list, &mut records, head.records)? {
+        return Ok(Compared::Broken);
     }
-    if !read_part(fd, &mut block, head.block) {
-        return Compared::Broken;
+    if !read_part(list, &mut block, head.block)? {
+        return Ok(Compared::Broken);
     }
     let equal = gives(
         part(&local, 0, head.local),
@@ -169,59 +186,46 @@ fn next_case(fd: i32) -> Compared {
         part(&records, 0, head.records),
         part(&block, 0, head.block),
     );
-    if equal {
+    Ok(if equal {
         Compared::Equal
     } else {
         Compared::Different
-    }
-}
-
-fn print_number(name: &[u8], n: u64) {
-    write_all(STDOUT_FILENO, name);
-    print_decimal(STDOUT_FILENO, n);
+    })
 }
 
 // Case i of a list, where `differ` others were not equal: 1 if it is equal.
-fn tell(compared: Compared, i: u32, differ: u32) -> u32
-    ensures { result ≤ 1 }
+fn tell(rt: &impl Print, compared: Compared, i: u32, differ: u32) -> io::Result<u32>
+    ensures { IfOk result (λ n. n ≤ 1) }
 {
     if let Compared::Equal = compared {
-        return 1;
+        return Ok(1);
     }
     if differ < SHOWN {
-        print_number(b"different=", i as u64);
-        write_all(STDOUT_FILENO, b"\n");
+        println!(rt; "different={i}")?;
     }
-    0
+    Ok(0)
 }
 
 // The cases of a list, one after the other: how many are equal.
-fn replay(fd: i32, count: u32) -> u32 {
+fn replay(rt: &impl Print, list: &mut File, count: u32) -> io::Result<u32> {
     let mut equal: u32 = 0;
     for i in 0..count {
-        equal += tell(next_case(fd), i, i - equal);
+        let compared = next_case(list)?;
+        equal += tell(rt, compared, i, i - equal)?;
     }
-    equal
+    Ok(equal)
 }
 
-fn replay_list(path: &[u8]) {
-    let fd = os::open_read(path);
-    if fd < 0 {
-        os::fail(path);
-        return;
-    }
+fn replay_list(rt: &HostRuntime, path: &str) -> io::Result<()> {
+    let mut list = File::open(rt, path)?;
     let mut head = [0u8; 32];
-    read_part(fd, &mut head, 32);
+    read_part(&mut list, &mut head, 32)?;
     let count = u32_at(&head, 8);
-    let equal = replay(fd, count);
-    write_all(STDOUT_FILENO, path);
-    print_number(b" cases=", count as u64);
-    print_number(b" equal=", equal as u64);
-    write_all(STDOUT_FILENO, b"\n");
-    libc::close(fd);
+    let equal = replay(rt, &mut list, count)?;
+    println!(rt; "{path} cases={count} equal={equal}")
 }
 
-fn main() {
-    replay_list(b"crate.list");
-    replay_list(b"by-document-01.list");
+fn main(rt: HostRuntime) -> io::Result<()> {
+    replay_list(&rt, "crate.list")?;
+    replay_list(&rt, "by-document-01.list")
 }

@@ -6,14 +6,11 @@ use mathlib.Core.Bool.{cond}
 use mathlib.Core.List.{[], ◌∷◌}
 use native.Mathlib.Numerals.{add-one}
 use native.Mathlib.Omega.{arith}
-use types.Run.{OneOf, miss}
-use denote.Enum.Declared.{tag_of}
 use lib.Dec.{eqb}
 use lib.ListN.{length, drop, drop_of_length-le}
 use borrow.Author.Tests.{eq-eqb, ne_eqb}
 use Rattle.btf_kinds.specs.declared.Entry.{Entry}
 use Rattle.btf_kinds.specs.Types.{Ty}
-use Rattle.rules.specs.contracts.Compat.{the_type}
 use Rattle.rules.specs.declared.Compat.{Compat}
 use Rattle.rules.specs.declared.Compat.TheVariants.{Compatible, Different, Broken, Beyond}
 use Rattle.rules.specs.Limits.{max_resolve_depth}
@@ -26,10 +23,10 @@ use Rattle.types_compat.specs.Steps.{comes_to, Leads, step_within}
 
 -- An answer other than Compatible
 abbrev pub Fails : Compat → Type 0
-Fails c = OneOf (1 ∷ 2 ∷ 3 ∷ []) (tag_of the_type c)
+Fails c = c ≡ Compatible → ⊥
 
 pub stops : (c next : Compat) → Fails c → and_then c next ≡ c
-stops Compatible next h = absurd (miss (1 ∷ 2 ∷ 3 ∷ []) 0 tt h)
+stops Compatible next h = absurd (h refl)
 stops Different next h = refl
 stops Broken next h = refl
 stops Beyond next h = refl
