@@ -7,9 +7,7 @@ use Rattle.rules.specs.declared.Step.TheVariants.{By}
 use Rattle.rules.specs.Refusal.{Reply, ok, refused}
 use Rattle.rules.specs.Access.{element, local_step}
 use Rattle.access_step.specs.declared.Stepped.{Stepped}
-use Rattle.access_step.specs.declared.Stepped.TheVariants as Stepped
 use Rattle.access_step.specs.declared.Placed.{Placed}
-use Rattle.access_step.specs.declared.Placed.TheVariants as Placed
 
 -- A step
 abbrev pub step_of : Stepped → Reply Step

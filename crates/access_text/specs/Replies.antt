@@ -4,9 +4,7 @@ use Rattle.std.proofs.Math.Option.{Option, none, some}
 use Rattle.rules.specs.declared.Refusal.TheVariants.{BadAccess, TooManyParts}
 use Rattle.rules.specs.Refusal.{Reply, ok, refused}
 use Rattle.access_text.specs.declared.Part.{Part}
-use Rattle.access_text.specs.declared.Part.TheVariants as Part
 use Rattle.access_text.specs.declared.Parsing.{Parsing}
-use Rattle.access_text.specs.declared.Parsing.TheVariants as Parsing
 use Rattle.access_text.specs.declared.Parsed.{Parsed}
 
 -- A part's number

@@ -8,7 +8,6 @@ use Rattle.rules.specs.Access.{Access, whole, variant, path, walked, local_steps
 use Rattle.rules.specs.Access as A
 use Rattle.access_walk.specs.declared.Walk.{Walk}
 use Rattle.access_walk.specs.declared.Reach.{Reach}
-use Rattle.access_walk.specs.declared.Reach.TheVariants as Reach
 use Rattle.access_walk.specs.declared.Accessed.{Accessed}
 
 -- A walk: its path is the first `count` steps.

@@ -4,7 +4,7 @@ use Prim.Native.Nat.{ℕ, ◌≤◌, ◌<◌}
 use mathlib.Core.Path.{◌≡◌}
 use mathlib.Core.List.{List, [], ◌∷◌}
 use Rattle.btf_kinds.specs.declared.Entry.{Entry}
-use Rattle.btf_view.specs.View.{View, typ}
+use Rattle.btf_view.specs.View.{View}
 
 -- every name of a list lies in the strings, every type is at most the last
 abbrev pub Inside : ℕ → ℕ → List Entry → Type 0

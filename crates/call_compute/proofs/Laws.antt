@@ -2,13 +2,12 @@
 -- Assumes nothing.
 use Prim.Native.Nat.{ℕ, ◌≤◌, ◌<◌}
 use mathlib.Core.Path.{◌≡◌, refl, sym, ap, ◌∙◌}
-use mathlib.Core.List.{List, [], ◌∷◌}
+use mathlib.Core.List.{List}
 use native.Mathlib.Omega.{arith}
 use lib.ListN.{length, get_or, take}
 use lib.Seq.{take_all}
 use borrow.Author.Tests.{eq-eqb, ne_eqb, lt-ltb, le-ltb, le-leb, lt-leb}
 use Rattle.access_walk.specs.declared.Reach.{Reach}
-use Rattle.access_walk.specs.declared.Reach.TheVariants as Reach
 use Rattle.access_walk.specs.Replies.{access_by}
 use Rattle.match_fold.specs.Matches.{matches_of}
 use Rattle.btf_view.specs.View.{View}

@@ -3,7 +3,6 @@ use Rattle.rules.specs.declared.Worth.{Worth}
 use Rattle.rules.specs.Refusal.{Reply, ok, refused}
 use Rattle.rules.specs.declared.Write.{Write}
 use Rattle.call_conclude.specs.declared.Relocated.{Relocated}
-use Rattle.call_conclude.specs.declared.Relocated.TheVariants as Relocated
 use Rattle.call_conclude.specs.declared.Concluded.{Concluded}
 use Rattle.call_conclude.specs.declared.Concluded.TheVariants.{Worthy, Refused}
 

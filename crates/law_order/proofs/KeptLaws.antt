@@ -14,7 +14,6 @@ use lib.ListN.{length, get_or, take, drop, set, length-set, length-take, length-
 use lib.Seq.{sets, take-set-lt, drop-set-lt, get_or-take, take_all, length-take-le, take-add, take_at, drop_at, take-take, take-append-add, drop-append-add, drop-drop}
 use Rattle.word_read.specs.Num.{Order, little}
 use Rattle.word_read.specs.Put.{first, rest, put_at}
-use Rattle.word_read.proofs.PutLaws.{long}
 use Rattle.rules.specs.declared.Refusal.{Refusal}
 use Rattle.rules.specs.declared.Refusal.TheVariants.{NoSuccessor, BadInstruction}
 use Rattle.rules.specs.declared.Resize.{Resize}

@@ -1,6 +1,6 @@
 -- A refused record leaves every instruction byte as it was, but for the partial refusals; so does a call.
-use Prim.Native.Nat.{ℕ, zero, suc, ◌+◌, ◌-◌, ◌≤◌, ◌<◌}
-use mathlib.Core.Path.{◌≡◌, refl, sym, ◌∙◌}
+use Prim.Native.Nat.{ℕ, suc, ◌+◌, ◌-◌, ◌≤◌}
+use mathlib.Core.Path.{◌≡◌, refl, ◌∙◌}
 use mathlib.Core.Bool.{Bool, true, false, cond, not}
 use mathlib.Core.List.{List, [], ◌∷◌}
 use mathlib.Core.Logic.{◌⊎◌, inl, inr}
@@ -11,7 +11,7 @@ use lib.ListN.{take}
 use Rattle.btf_view.specs.View.{View}
 use Rattle.rules.specs.declared.Record.{Record}
 use Rattle.rules.specs.declared.Refusal.{Refusal}
-use Rattle.rules.specs.declared.Refusal.TheVariants.{KindTooBig, NotInFunction, NoSuccessor, BadInstruction}
+use Rattle.rules.specs.declared.Refusal.TheVariants.{KindTooBig, NotInFunction}
 use Rattle.rules.specs.declared.Write.{Write}
 use Rattle.rules.specs.declared.Write.TheVariants.{Put, Poison}
 use Rattle.rules.specs.declared.Answer.{Answer}
@@ -21,7 +21,7 @@ use Rattle.rules.specs.Kinds.{enum_value}
 use Rattle.rules.specs.Refusal.{Reply, ok, refused, returned}
 use Rattle.rules.specs.Apply.{Patch, done, stopped, patch}
 use Rattle.rules.specs.Record.{Outcome, relocated, outcome, refuse, apply, index_of, in_function, record_of}
-use Rattle.rules.specs.List.{Run, follow, list_of}
+use Rattle.rules.specs.List.{follow, list_of}
 use Rattle.rules.specs.Call.{records_in, end_of, run_of, shaped, unrun, relocate_read}
 use Rattle.law_order.specs.Kept.{Partial, is_partial, RecordKeeps, CallKeeps}
 use Rattle.law_order.proofs.KeptLaws.{keeps}

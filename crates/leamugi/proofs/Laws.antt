@@ -6,7 +6,6 @@ use Rattle.rules.specs.declared.Said.{Said}
 use Rattle.rules.specs.Call.{Effect}
 use Rattle.call_records.specs.Run.{effect_of}
 use Rattle.leamugi_numbers.specs.declared.Numbers.{Numbers}
-use Rattle.leamugi_numbers.specs.Numbers.{numbered}
 use Rattle.leamugi_numbers.specs.Endings.{said_numbers}
 
 -- What a call said and left, laid out

@@ -1,5 +1,4 @@
 -- The example of document 01, section 9, computed.
-use Prim.Native.Nat.{◌+◌}
 use mathlib.Core.Path.{◌≡◌, refl}
 use mathlib.Core.List.{◌++◌}
 use Rattle.rules.specs.declared.Answer.TheVariants.{Applied, Refused}

@@ -5,7 +5,6 @@ use Rattle.rules.specs.declared.Refusal.TheVariants.{Unresolved}
 use Rattle.rules.specs.Refusal.{Reply, ok, refused}
 use Rattle.rules.specs.Value.{aligned}
 use Rattle.value_load.specs.declared.Loaded.{Loaded}
-use Rattle.value_load.specs.declared.Loaded.TheVariants as Loaded
 
 -- A load
 abbrev pub load_of : Loaded → Reply Load

@@ -8,7 +8,6 @@ use Rattle.rules.specs.Refusal.{Reply, ok, refused, bind}
 use Rattle.rules.specs.Types.{resolve, resolved, size_of, sized, own_size}
 use Rattle.rules.specs.Value.{bitfield, plain_value, bitfield_value, member_value}
 use Rattle.value_member.specs.declared.Valued.{Valued}
-use Rattle.value_member.specs.declared.Valued.TheVariants as Valued
 
 -- A value
 abbrev pub reply_of : Valued → Reply Value

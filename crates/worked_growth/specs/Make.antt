@@ -1,5 +1,5 @@
 -- Bytes of small BTFs, laid out as the kernel's document says: headers, types, names.
-use Rattle.std.specs.Prelude.{ℕ, zero, ◌+◌, ◌*◌, ◌/◌, ◌%◌, ◌^◌, List, [], ◌∷◌, ◌++◌, length}
+use Rattle.std.specs.Prelude.{ℕ, ◌+◌, ◌*◌, ◌/◌, ◌%◌, ◌^◌, List, [], ◌∷◌, ◌++◌, length}
 use Prim.Native.String.{String}
 use Rattle.rules.specs.Ascii.{ascii}
 

@@ -1,6 +1,5 @@
 -- `access_text::number_from` meets its contract.
 use mathlib.Core.Path.{sym, ap, ◌∙◌}
-use Prim.Native.Nat.{◌-◌}
 use borrow.Author.Rules.{rules}
 use Rattle.access_text.specs.Replies.{number_in}
 use Rattle.access_text.proofs.Digits.{empty, start, next, fails, ends}

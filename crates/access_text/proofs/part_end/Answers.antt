@@ -1,5 +1,4 @@
 -- `access_text::part_end` meets its contract.
-use Prim.Native.Nat.{◌-◌}
 use borrow.Author.Rules.{rules}
 use Rattle.access_text.proofs.Colons.{passed_first, hit, miss, out}
 use Rattle.access_text.proofs.part_end.Goals as goal

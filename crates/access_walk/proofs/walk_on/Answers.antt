@@ -1,6 +1,5 @@
 -- `access_walk::walk_on` meets its contract.
 use mathlib.Core.Path.{sym, ap, ◌∙◌}
-use Prim.Native.Nat.{◌-◌}
 use native.Mathlib.Omega.{arith}
 use Rattle.access_text.proofs.Counting.{counted-long, counted-at}
 use Rattle.access_step.specs.Replies.{step_of}

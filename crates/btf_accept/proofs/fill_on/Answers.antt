@@ -1,7 +1,6 @@
 -- `btf_accept::fill_on` meets its contract.
 use native.Mathlib.Omega.{arith}
 use mathlib.Core.Path.{◌≡◌, refl}
-use Prim.Native.Nat.{◌-◌}
 use Rattle.btf_accept.proofs.ScanLaws.{lies_at}
 use Rattle.btf_accept.proofs.FillLaws.{filled_none, filled_next, entry-is, place-on}
 use Rattle.btf_accept.proofs.fill_on.Goals as goal

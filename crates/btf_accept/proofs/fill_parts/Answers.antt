@@ -1,7 +1,7 @@
 -- `btf_accept::fill_parts` meets its contract.
 use native.Mathlib.Omega.{arith}
 use mathlib.Core.Path.{◌≡◌, refl, ap, ◌∙◌}
-use Prim.Native.Nat.{◌+◌, ◌*◌, ◌-◌}
+use Prim.Native.Nat.{◌+◌, ◌*◌}
 use lib.ListN.{length, length-set}
 use Rattle.btf_accept.specs.Shape.{place_of}
 use Rattle.btf_accept.proofs.ScanLaws.{lies_at}

@@ -1,5 +1,4 @@
 -- `btf_accept::first_unfit` meets its contract.
-use Prim.Native.Nat.{◌-◌}
 use Rattle.btf_accept.proofs.FitLaws.{fitting-first, fitting-far, fitting-top, fitting-next, fitting-passes, fitting-end}
 use Rattle.btf_accept.proofs.ScanLaws.{walking-inside}
 use Rattle.btf_accept.proofs.StretchLaws.{one-next, one_fault}

@@ -1,6 +1,5 @@
 -- `btf_accept::stretch` meets its contract.
 use mathlib.Core.Path.{refl, sym, ◌∙◌}
-use Prim.Native.Nat.{◌-◌}
 use Rattle.btf_accept.proofs.StretchLaws.{stretch_end, stretch_stop, stretch_fault, stretch_next}
 use Rattle.btf_accept.proofs.stretch.Goals as goal
 

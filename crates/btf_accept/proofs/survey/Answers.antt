@@ -1,7 +1,6 @@
 -- `btf_accept::survey` meets its contract.
 use native.Mathlib.Omega.{arith}
 use mathlib.Core.Path.{◌∙◌}
-use Prim.Native.Nat.{◌-◌}
 use lib.ListN.{set, length-set}
 use Rattle.btf_accept.proofs.MarkLaws.{marking-first, marking-index, marking-less, marking-next, unmarked_many, unmarked_fault, marking_counts, marking_fault}
 use Rattle.btf_accept.proofs.FitLaws.{surveyed-many, surveyed_walks, surveyed-reached, surveyed-end}

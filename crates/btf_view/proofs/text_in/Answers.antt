@@ -1,6 +1,5 @@
 -- `btf_view::text_in` meets its contract.
 use native.Mathlib.Omega.{arith}
-use Prim.Native.Nat.{◌-◌}
 use Rattle.btf_view.proofs.Seen.{seen_first, text-none, seen-zero, seen_next, seen_end}
 use Rattle.btf_view.proofs.text_in.Goals as goal
 

@@ -1,6 +1,5 @@
 -- `call_block::put_hex` meets its contract.
 use native.Mathlib.Omega.{arith}
-use Prim.Native.Nat.{◌-◌}
 use borrow.Author.Rules.{rules}
 use Rattle.call_lines.proofs.Laws.{stays}
 use Rattle.call_block.specs.Block.{hex}

@@ -1,5 +1,4 @@
 -- `call_lines::put_piece` meets its contract.
-use Prim.Native.Nat.{◌-◌}
 use native.Mathlib.Omega.{arith}
 use Rattle.call_lines.proofs.Laws.{stays, more, whole}
 use Rattle.call_lines.proofs.put_piece.Goals as goal

@@ -1,5 +1,4 @@
 -- `call_records::run_records` meets its contract.
-use Prim.Native.Nat.{◌-◌}
 use mathlib.Core.Path.{refl}
 use native.Mathlib.Omega.{arith}
 use Rattle.call_records.proofs.Run.{going-first, going_end, going-refused, going_next}

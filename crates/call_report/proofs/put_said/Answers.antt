@@ -1,6 +1,5 @@
 -- `call_report::put_said` meets its contract.
 use mathlib.Core.Path.{◌∙◌}
-use Prim.Native.Nat.{◌-◌}
 use native.Mathlib.Omega.{arith}
 use Rattle.rules.specs.Report.{report_said}
 use Rattle.call_lines.proofs.Laws.{stays}

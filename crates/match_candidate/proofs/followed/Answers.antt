@@ -1,5 +1,4 @@
 -- `match_candidate::followed` meets its contract.
-use Prim.Native.Nat.{◌-◌}
 use native.Mathlib.Omega.{arith}
 use borrow.Author.Rules.{rules}
 use Rattle.match_candidate.proofs.Fields.{following-none, following-first, following-stop, following-next, following-end}

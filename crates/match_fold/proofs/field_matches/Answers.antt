@@ -1,5 +1,4 @@
 -- `match_fold::field_matches` meets its contract.
-use Prim.Native.Nat.{◌-◌}
 use mathlib.Core.Path.{◌∙◌}
 use native.Mathlib.Omega.{arith}
 use Rattle.match_fold.proofs.Events.{own-fold, field_given}

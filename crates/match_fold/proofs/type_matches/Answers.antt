@@ -1,5 +1,4 @@
 -- `match_fold::type_matches` meets its contract.
-use Prim.Native.Nat.{◌-◌}
 use mathlib.Core.Path.{sym, ◌∙◌}
 use native.Mathlib.Omega.{arith}
 use Rattle.match_fold.proofs.Events.{own-fold}

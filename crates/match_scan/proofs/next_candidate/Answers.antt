@@ -1,5 +1,4 @@
 -- `match_scan::next_candidate` meets its contract.
-use Prim.Native.Nat.{◌-◌}
 use mathlib.Core.Path.{refl, sym, ◌∙◌}
 use Rattle.btf_view.specs.View.{tab_view}
 use Rattle.match_scan.proofs.From.{none_from, found_from, later-from}

@@ -1,6 +1,5 @@
 -- `run_btf_cases::encodings` meets its contract.
 -- `run_btf_cases::encodings` ends and is safe.
-use Prim.Native.Nat.{◌-◌}
 use Rattle.run_btf_cases.proofs.encodings.Goals as goal
 
 pub loop-e-init : goal.loop-e-init

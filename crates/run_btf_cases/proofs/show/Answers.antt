@@ -1,6 +1,5 @@
 -- `run_btf_cases::show` meets its contract.
 -- `run_btf_cases::show` ends and is safe.
-use Prim.Native.Nat.{◌-◌}
 use Rattle.run_btf_cases.proofs.show.Goals as goal
 
 pub loop-i-init : goal.loop-i-init

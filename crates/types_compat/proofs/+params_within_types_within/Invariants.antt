@@ -1,5 +1,5 @@
 -- What falls where `types_compat::params_within` and `types_compat::types_within` call one another, and the loop of the first.
-use Rattle.std.proofs.Common.{◌≡◌, ◌+◌, ◌-◌, ◌*◌, drop}
+use Rattle.std.proofs.Common.{◌≡◌, ◌+◌, ◌*◌, drop}
 use Rattle.btf_view.specs.View.{tab_view}
 use Rattle.rules.specs.Limits.{max_resolve_depth}
 use Rattle.rules.specs.Types.{pairs, params}

@@ -1,6 +1,5 @@
 -- `types_names::same_in` meets its contract.
 use mathlib.Core.Path.{refl}
-use Prim.Native.Nat.{◌-◌}
 use native.Mathlib.Omega.{arith}
 use Rattle.types_names.proofs.Names.{inside, inside-in, name-ends, other-ends, name_differs, name_goes}
 use borrow.Author.Rules.{rules}

@@ -1,6 +1,5 @@
 -- `types_names::same_text` meets its contract.
 use mathlib.Core.Path.{refl}
-use Prim.Native.Nat.{◌-◌}
 use native.Mathlib.Omega.{arith}
 use Rattle.types_names.proofs.Names.{other_length, text_differs, text_goes, text-ends}
 use borrow.Author.Rules.{rules}
