@@ -54,7 +54,8 @@ fn local_member(bytes: &[u8], table: &[u32], btf: Btf, id: u32, bits: u64, index
     let Bits::At(at) = sum else {
         return Stepped::Refused(Refusal::BitsTooBig);
     };
-    if member.name == 0 {
+    let unnamed = member.name == 0;
+    if unnamed {
         return Stepped::To(Step::Within(member.typ, at));
     }
     let accessor = Accessor {

@@ -136,7 +136,8 @@ pub fn parse_access(text: &[u8]) -> Parsed
         count += 1;
         at = end + 1;
     }
-    if count > MAX_PARTS {
+    let too_many = count > MAX_PARTS;
+    if too_many {
         return no_parts(Parsing::TooMany);
     }
     Parsed {

@@ -102,7 +102,8 @@ pub fn count_at(bytes: &[u8], at: usize) -> u32
 {
     let tail = tail_of(kind_at(bytes, at));
     let entry = tail.each;
-    if entry == 0 { 0 } else { vlen_at(bytes, at) }
+    let bare = entry == 0;
+    if bare { 0 } else { vlen_at(bytes, at) }
 }
 
 fn made(name: u32, typ: u32, low: u32, high: u32) -> Entry

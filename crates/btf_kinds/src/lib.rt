@@ -144,7 +144,8 @@ pub fn tail_by_cases(kind: u32) -> Tail
 pub fn encoding_fine(x: u32) -> bool
     ensures { result ≡ encodes x }
 {
-    if ones_masked(x, BTF_INT_ENCODINGS) <= 1 {
+    let at_most_one = ones_masked(x, BTF_INT_ENCODINGS) <= 1;
+    if at_most_one {
         x & BTF_INT_UNKNOWN == 0
     } else {
         false

@@ -257,9 +257,10 @@ pub fn pass(types: &[u8], at: usize) -> Passing
     let typ = u32_in(types, at + 8);
     let count = vlen_in(types, at);
     let kind = kind_in(types, at);
+    let bare = kind < BTF_KIND_FUNC_PROTO;
     if kind < BTF_KIND_TYPEDEF {
         pass_low(types, at, kind, count, name, typ)
-    } else if kind < BTF_KIND_FUNC_PROTO {
+    } else if bare {
         Passing::Next(at + 12, name, typ)
     } else {
         pass_high(types, at, kind, count, name, typ)

@@ -17,7 +17,8 @@ use word_read::part;
 fn place_of(bytes: &[u8], table: &[u32], last: u32, id: u32) -> usize
     ensures { (result ≡ table_place bytes.now table.now last id) × (result < 9223372036854775808) }
 {
-    if id == 0 {
+    let void = id == 0;
+    if void {
         return bytes.len();
     }
     if id > last {

@@ -44,7 +44,8 @@ pub fn apply_record(
 ) -> Answer
     ensures { outcome_of result insns.new ≡ record_of (lent local ltable lbtf) (lent target ttable tbtf) section insns.old relo }
 {
-    if ENUM_VARIANT_VALUE < relo.kind {
+    let beyond = ENUM_VARIANT_VALUE < relo.kind;
+    if beyond {
         return Answer::Refused(Refusal::KindTooBig(relo.kind));
     }
     let offset = relo.offset as u64;

@@ -158,7 +158,8 @@ pub fn conclude_from(kind: u32, matches: Matches) -> Concluded
         Matches::Unmatched => absent_worth(kind),
         Matches::Halted(r) => Concluded::Refused(r),
         Matches::Kept(bits, v, id, n) => {
-            if n == 0 {
+            let alone = n == 0;
+            if alone {
                 return Concluded::Worthy(v);
             }
             Concluded::Refused(Refusal::Conflict(id, n))

@@ -101,7 +101,8 @@ fn put_insn(out: &mut [u8], at: u64, index: u64, answer: Answer) -> u64
     if number == 4 {
         return put_piece(out, at, b"insn=none\n");
     }
-    if number == 5 {
+    let outside = number == 5;
+    if outside {
         return put_piece(out, at, b"insn=none\n");
     }
     put_line(out, at, b"insn=", index)

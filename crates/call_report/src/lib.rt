@@ -163,7 +163,8 @@ pub fn report(
         records,
         said,
     );
-    if needed > out.len() as u64 {
+    let too_long = needed > out.len() as u64;
+    if too_long {
         return Reported::Needed(needed);
     }
     Reported::Written(put_said(

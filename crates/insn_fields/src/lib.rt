@@ -105,7 +105,8 @@ pub fn poison(insns: &mut [u8], index: u32) -> Patched
 {
     let code = u8_at(insns, CODE);
     poison_insn(insns);
-    if code != BPF_LD_IMM64 {
+    let alone = code != BPF_LD_IMM64;
+    if alone {
         return Patched::Done;
     }
     if has_successor(insns) {

@@ -61,7 +61,8 @@ fn resize(insns: &mut [u8], change: Resize) -> Patched
 pub fn patch_memory(insns: &mut [u8], value: u64, change: Resize) -> Patched
     ensures { patch_of result insns.new ≡ apply.patch_memory insns.old value change }
 {
-    if value > MAX_OFF {
+    let too_big = value > MAX_OFF;
+    if too_big {
         return bad_instruction(OFFSET_TOO_BIG);
     }
     put_i16(insns, OFF, value as i16);

@@ -38,7 +38,8 @@ fn values_agree(first: Worth, other: Worth) -> bool
 fn matches_agree(b: u64, v: Worth, bits: u64, worth: Worth) -> bool
     ensures { result ≡ agrees b v bits worth }
 {
-    if b != bits {
+    let elsewhere = b != bits;
+    if elsewhere {
         return false;
     }
     values_agree(v, worth)

@@ -33,7 +33,8 @@ fn at_element(
     requires { from.parts + 1 < 4294967296 }
     ensures { result ≡ reached (at_element (lent target ttable tbtf).typ candidate from index id) }
 {
-    if from.parts == MAX_SPEC_LEN {
+    let full = from.parts == MAX_SPEC_LEN;
+    if full {
         return Search::Failed(Refusal::MaximumNesting(candidate));
     }
     let placed = placed_element(target, ttable, tbtf, id, from.bits, index);

@@ -146,7 +146,8 @@ pub fn search_member(
         let m = entry_of(target, ttable, tbtf, i, k);
         let text = text_of(target, tbtf, m.name);
         if text.len() == 0 {
-            if levels == 0 {
+            let deepest = levels == 0;
+            if deepest {
                 return Search::Failed(Refusal::TooDeep);
             }
             let down = levels - 1;

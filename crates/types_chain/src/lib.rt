@@ -26,7 +26,8 @@ const SIZE_LIMIT: u64 = 4294967296;
 fn is_modifier(kind: u32) -> bool
     ensures { result ≡ is_modifier kind }
 {
-    kind == BTF_KIND_TYPE_TAG || (BTF_KIND_TYPEDEF <= kind && kind <= BTF_KIND_RESTRICT)
+    let tag = kind == BTF_KIND_TYPE_TAG;
+    tag || (BTF_KIND_TYPEDEF <= kind && kind <= BTF_KIND_RESTRICT)
 }
 
 pub fn is_composite(kind: u32) -> bool

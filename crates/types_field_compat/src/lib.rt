@@ -27,7 +27,8 @@ fn both_composite(a: u32, b: u32) -> bool
 fn goes_by_name(kind: u32) -> bool
     ensures { result ≡ (eqb kind FWD || is_enum kind) }
 {
-    kind == BTF_KIND_FWD || is_enum(kind)
+    let forward = kind == BTF_KIND_FWD;
+    forward || is_enum(kind)
 }
 
 // Two types' names: compatible where they are the same but for flavours.

@@ -50,7 +50,8 @@ fn ends_in(strings: &[u8], at: usize) -> bool
     ensures { result ≡ is_empty (flavourless (text_at strings.now at)) }
 {
     let byte = byte_at(strings, at);
-    if byte == 0 {
+    let last = byte == 0;
+    if last {
         return true;
     }
     byte == UNDERSCORE

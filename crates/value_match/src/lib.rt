@@ -76,7 +76,8 @@ pub fn type_value(bytes: &[u8], table: &[u32], btf: Btf, kind: u32, id: u32) -> 
     if kind == TYPE_ID_TARGET {
         return plainly(id as u64);
     }
-    if kind == TYPE_EXISTS {
+    let existence = kind == TYPE_EXISTS;
+    if existence {
         return plainly(1);
     }
     size_value(bytes, table, btf, id)
@@ -96,7 +97,8 @@ pub fn variant_value(bytes: &[u8], table: &[u32], btf: Btf, id: u32, variant: En
     if kind_of(bytes, table, btf, id) != BTF_KIND_ENUM {
         return raw_value(variant);
     }
-    if flag_of(bytes, table, btf, id) != 1 {
+    let unsigned = flag_of(bytes, table, btf, id) != 1;
+    if unsigned {
         return raw_value(variant);
     }
     sign_extend(variant.low)

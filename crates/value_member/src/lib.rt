@@ -49,7 +49,8 @@ pub fn plainly(number: u64) -> Valued
 fn shift_by(bits: u64) -> Valued
     ensures { reply_of result ≡ shift bits }
 {
-    if bits > REGISTER {
+    let too_wide = bits > REGISTER;
+    if too_wide {
         return Valued::Refused(Refusal::Unresolved);
     }
     plainly(REGISTER - bits)

@@ -51,7 +51,8 @@ pub fn put_i32(bytes: &mut [u8], at: usize, v: i32)
 pub fn signed32(x: u32) -> i32
     ensures { result ≡ to_z w32 x }
 {
-    if x < 2147483648 {
+    let positive = x < 2147483648;
+    if positive {
         x as i32
     } else {
         -1 - ((4294967295 - x) as i32)

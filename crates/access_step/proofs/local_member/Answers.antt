@@ -21,9 +21,9 @@ returns-in_default c =
       c.in_default.is,
     ))
 
-pub returns-then-member-eq0 : goal.returns-then-member-eq0
+pub returns-then-unnamed : goal.returns-then-unnamed
 unfolding local_member
-returns-then-member-eq0 c =
+returns-then-unnamed c =
     sym (rw (
       ← c.count_of-count.ensures,
       lt-leb _ _ c.if-index-count.false,
@@ -32,7 +32,7 @@ returns-then-member-eq0 c =
       ←
           c.bits_sum-sum.ensures,
       c.in-At.is,
-      eq-eqb _ _ c.if-member-eq0.true,
+      eq-eqb _ _ c.if-unnamed.true,
     ))
 
 pub returns : goal.returns
@@ -46,5 +46,5 @@ returns c =
       ←
           c.bits_sum-sum.ensures,
       c.in-At.is,
-      ne_eqb _ _ c.if-member-eq0.false,
+      ne_eqb _ _ c.if-unnamed.false,
     ))

@@ -36,8 +36,8 @@ loop-at-smaller c = omega (arith, end (goal.at.loop-at-smaller c).After-part_end
 pub loop-at-preserved : goal.loop-at-preserved
 loop-at-preserved c = more c.loop-at.invariant c.loop-at-test.true c.part_end-end.ensures (sym (ap number_in c.in-Number.is) ∙ c.part_of-one.ensures) c.keep.ensures
 
-pub returns-then-count-gt-MAX_PARTS : goal.returns-then-count-gt-MAX_PARTS
-returns-then-count-gt-MAX_PARTS c = rw c.no_parts-then-count-gt-MAX_PARTS.ensures (many c.loop-at.invariant c.loop-at-test.false c.if-count-gt-MAX_PARTS.true)
+pub returns-then-too_many : goal.returns-then-too_many
+returns-then-too_many c = rw c.no_parts-then-too_many.ensures (many c.loop-at.invariant c.loop-at-test.false c.if-too_many.true)
 
 pub returns : goal.returns
-returns c = good c.loop-at.invariant c.loop-at-test.false c.if-count-gt-MAX_PARTS.false
+returns c = good c.loop-at.invariant c.loop-at-test.false c.if-too_many.false

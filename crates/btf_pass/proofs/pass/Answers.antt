@@ -30,7 +30,7 @@ pub pass_low-requires : goal.pass_low-requires
 pass_low-requires c = (seen (goal.at.pass_low-requires c).After-kind_in-kind, c.if-kind-lt-BTF_KIND_TYPEDEF.true)
 
 pub pass_high-requires : goal.pass_high-requires
-pass_high-requires c = (seen (goal.at.pass_high-requires c).After-kind_in-kind, c.if-kind-lt-BTF_KIND_FUNC_PROTO.false)
+pass_high-requires c = (seen (goal.at.pass_high-requires c).After-kind_in-kind, c.if-bare.false)
 
-pub returns-then-kind-lt-BTF_KIND_FUNC_PROTO : goal.returns-then-kind-lt-BTF_KIND_FUNC_PROTO
-returns-then-kind-lt-BTF_KIND_FUNC_PROTO c = step_typed (seen (goal.at.returns-then-kind-lt-BTF_KIND_FUNC_PROTO c).After-kind_in-kind) (typed_range c.if-kind-lt-BTF_KIND_TYPEDEF.false c.if-kind-lt-BTF_KIND_FUNC_PROTO.true)
+pub returns-then-bare : goal.returns-then-bare
+returns-then-bare c = step_typed (seen (goal.at.returns-then-bare c).After-kind_in-kind) (typed_range c.if-kind-lt-BTF_KIND_TYPEDEF.false c.if-bare.true)

@@ -4,9 +4,9 @@ use mathlib.Core.Path.{sym}
 use borrow.Author.Tests.{eq-eqb, ne_eqb}
 use Rattle.call_conclude.proofs.conclude_from.Goals as goal
 
-pub returns-then-n-eq0 : goal.returns-then-n-eq0
+pub returns-then-alone : goal.returns-then-alone
 unfolding conclude
-returns-then-n-eq0 c = sym (rw (c.in-Kept.is, eq-eqb _ _ c.if-n-eq0.true))
+returns-then-alone c = sym (rw (c.in-Kept.is, eq-eqb _ _ c.if-alone.true))
 
 pub returns-in-Unmatched : goal.returns-in-Unmatched
 unfolding conclude
@@ -16,6 +16,6 @@ pub returns-in-Halted : goal.returns-in-Halted
 unfolding conclude
 returns-in-Halted c = sym (rw c.in-Halted.is)
 
-pub returns-else-n-eq0 : goal.returns-else-n-eq0
+pub returns-else-alone : goal.returns-else-alone
 unfolding conclude
-returns-else-n-eq0 c = sym (rw (c.in-Kept.is, ne_eqb _ _ c.if-n-eq0.false))
+returns-else-alone c = sym (rw (c.in-Kept.is, ne_eqb _ _ c.if-alone.false))

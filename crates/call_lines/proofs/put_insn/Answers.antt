@@ -7,8 +7,8 @@ use Rattle.call_lines.proofs.put_insn.Goals as goal
 pub returns-then-number-eq4 : goal.returns-then-number-eq4
 returns-then-number-eq4 c = called (ap (line "insn=") (hides_at_4 _ _ (sym c.answer_number-number.ensures ∙ c.if-number-eq4.true))) c.put_piece.ensures
 
-pub returns-then-number-eq5 : goal.returns-then-number-eq5
-returns-then-number-eq5 c = called (ap (line "insn=") (hides_at_5 _ _ (sym c.answer_number-number.ensures ∙ c.if-number-eq5.true))) c.put_piece-then-number-eq5.ensures
+pub returns-then-outside : goal.returns-then-outside
+returns-then-outside c = called (ap (line "insn=") (hides_at_5 _ _ (sym c.answer_number-number.ensures ∙ c.if-outside.true))) c.put_piece-then-outside.ensures
 
 pub returns : goal.returns
-returns c = let e = c.answer_number-number.ensures in called (ap (line "insn=") (shows _ _ (λ h. c.if-number-eq4.false (e ∙ h)) (λ h. c.if-number-eq5.false (e ∙ h)))) c.put_line.ensures
+returns c = let e = c.answer_number-number.ensures in called (ap (line "insn=") (shows _ _ (λ h. c.if-number-eq4.false (e ∙ h)) (λ h. c.if-outside.false (e ∙ h)))) c.put_line.ensures

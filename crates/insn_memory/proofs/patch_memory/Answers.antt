@@ -5,12 +5,12 @@ use Rattle.insn_fields.specs.declared.Patched.{Patched}
 use Rattle.insn_memory.proofs.Laws.{too_far, near}
 use Rattle.insn_memory.proofs.patch_memory.Goals as goal
 
-pub returns-then-value-gt-MAX_OFF : goal.returns-then-value-gt-MAX_OFF
-returns-then-value-gt-MAX_OFF c =
+pub returns-then-too_big : goal.returns-then-too_big
+returns-then-too_big c =
     let a = c.args in
-    ap (λ (p : Patched). patch_of p a.insns.now) c.bad_instruction.ensures ∙ too_far a.insns.now a.value a.change c.if-value-gt-MAX_OFF.true
+    ap (λ (p : Patched). patch_of p a.insns.now) c.bad_instruction.ensures ∙ too_far a.insns.now a.value a.change c.if-too_big.true
 
 pub returns : goal.returns
 returns c =
     let a = c.args in
-    c.resize.ensures ∙ near a.insns.now a.value a.change c.if-value-gt-MAX_OFF.false c.put_i16.ensures
+    c.resize.ensures ∙ near a.insns.now a.value a.change c.if-too_big.false c.put_i16.ensures

@@ -3,8 +3,8 @@ use mathlib.Core.Path.{sym}
 use borrow.Author.Tests.{eq-eqb, ne_eqb}
 use Rattle.types_field_compat.proofs.goes_by_name.Goals as goal
 
-pub returns-then-kind-eq-BTF_KIND_FWD : goal.returns-then-kind-eq-BTF_KIND_FWD
-returns-then-kind-eq-BTF_KIND_FWD c = sym (rw (eq-eqb _ _ c.if-kind-eq-BTF_KIND_FWD.true))
+pub returns-then-forward : goal.returns-then-forward
+returns-then-forward c = sym (rw (eq-eqb _ _ c.if-forward.true))
 
-pub returns-else-kind-eq-BTF_KIND_FWD : goal.returns-else-kind-eq-BTF_KIND_FWD
-returns-else-kind-eq-BTF_KIND_FWD c = sym (rw (ne_eqb _ _ c.if-kind-eq-BTF_KIND_FWD.false, ← c.is_enum.ensures))
+pub returns-else-forward : goal.returns-else-forward
+returns-else-forward c = sym (rw (ne_eqb _ _ c.if-forward.false, ← c.is_enum.ensures))

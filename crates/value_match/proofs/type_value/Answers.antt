@@ -8,10 +8,10 @@ pub returns-then-kind-eq-TYPE_ID_TARGET : goal.returns-then-kind-eq-TYPE_ID_TARG
 unfolding type_value
 returns-then-kind-eq-TYPE_ID_TARGET c = sym (rw (eq-eqb _ _ c.if-kind-eq-TYPE_ID_TARGET.true, ← c.plainly.ensures))
 
-pub returns-then-kind-eq-TYPE_EXISTS : goal.returns-then-kind-eq-TYPE_EXISTS
+pub returns-then-existence : goal.returns-then-existence
 unfolding type_value
-returns-then-kind-eq-TYPE_EXISTS c = sym (rw (ne_eqb _ _ c.if-kind-eq-TYPE_ID_TARGET.false, eq-eqb _ _ c.if-kind-eq-TYPE_EXISTS.true, ← c.plainly-then-kind-eq-TYPE_EXISTS.ensures))
+returns-then-existence c = sym (rw (ne_eqb _ _ c.if-kind-eq-TYPE_ID_TARGET.false, eq-eqb _ _ c.if-existence.true, ← c.plainly-then-existence.ensures))
 
 pub returns : goal.returns
 unfolding type_value
-returns c = sym (rw (ne_eqb _ _ c.if-kind-eq-TYPE_ID_TARGET.false, ne_eqb _ _ c.if-kind-eq-TYPE_EXISTS.false, ← c.size_value.ensures))
+returns c = sym (rw (ne_eqb _ _ c.if-kind-eq-TYPE_ID_TARGET.false, ne_eqb _ _ c.if-existence.false, ← c.size_value.ensures))

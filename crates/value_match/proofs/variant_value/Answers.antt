@@ -8,16 +8,16 @@ pub returns-then-kind_of-ne-BTF_KIND_ENUM : goal.returns-then-kind_of-ne-BTF_KIN
 unfolding variant_value
 returns-then-kind_of-ne-BTF_KIND_ENUM c = sym (rw (← c.kind_of.ensures, ne_eqb _ _ c.if-kind_of-ne-BTF_KIND_ENUM.true, ← c.raw_value.ensures))
 
-pub returns-then-flag_of-ne1 : goal.returns-then-flag_of-ne1
+pub returns-then-unsigned : goal.returns-then-unsigned
 unfolding variant_value
-returns-then-flag_of-ne1 c =
+returns-then-unsigned c =
     sym (rw (
       ← c.kind_of.ensures,
       eq-eqb _ _ c.if-kind_of-ne-BTF_KIND_ENUM.false,
-      ← c.flag_of.ensures,
+      ← c.flag_of-unsigned.ensures,
       ne_eqb _ _
-          c.if-flag_of-ne1.true,
-      ← c.raw_value-then-flag_of-ne1.ensures,
+          c.if-unsigned.true,
+      ← c.raw_value-then-unsigned.ensures,
     ))
 
 pub returns : goal.returns
@@ -26,8 +26,8 @@ returns c =
     sym (rw (
       ← c.kind_of.ensures,
       eq-eqb _ _ c.if-kind_of-ne-BTF_KIND_ENUM.false,
-      ← c.flag_of.ensures,
+      ← c.flag_of-unsigned.ensures,
       eq-eqb _ _
-          c.if-flag_of-ne1.false,
+          c.if-unsigned.false,
       ← c.sign_extend.ensures,
     ))

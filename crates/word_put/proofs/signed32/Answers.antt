@@ -2,13 +2,13 @@
 use mir.Syntax.{w32}
 use Rattle.word_put.proofs.SignLaws.{HighAt, high}
 use Rattle.word_put.proofs.signed32.Goals as goal
-use Rattle.word_put.proofs.signed32.Goals.{Else-x-lt2147483648}
+use Rattle.word_put.proofs.signed32.Goals.{Else-positive}
 
-up : (c : Else-x-lt2147483648) → HighAt w32 c.args.x
-up c = high w32 c.args.x c.if-x-lt2147483648.false c.ranges.x.fits
+up : (c : Else-positive) → HighAt w32 c.args.x
+up c = high w32 c.args.x c.if-positive.false c.ranges.x.fits
 
-pub overflow_sub-result-else-x-lt2147483648 : goal.overflow_sub-result-else-x-lt2147483648
-overflow_sub-result-else-x-lt2147483648 c = (up (goal.at.overflow_sub-result-else-x-lt2147483648 c).Else-x-lt2147483648).sub
+pub overflow_sub-result-else-positive : goal.overflow_sub-result-else-positive
+overflow_sub-result-else-positive c = (up (goal.at.overflow_sub-result-else-positive c).Else-positive).sub
 
-pub returns-else-x-lt2147483648 : goal.returns-else-x-lt2147483648
-returns-else-x-lt2147483648 c = (up (goal.at.returns-else-x-lt2147483648 c).Else-x-lt2147483648).is
+pub returns-else-positive : goal.returns-else-positive
+returns-else-positive c = (up (goal.at.returns-else-positive c).Else-positive).is
