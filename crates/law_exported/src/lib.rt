@@ -1,2 +1,2 @@
-// Theorems only: see specs/.
+// Theorems only: see specs/ and proofs/.
 #![tactic(auto)]
