@@ -10,9 +10,8 @@ ghost use Rattle.rules.specs.Access.{local_open, local_member, element_bits, loc
 ghost use Rattle.access_step.specs.Replies.{step_of, placed_of, step_by, next_step};
 
 use access_bits::{Bits, bits_sum, element_bits, local_first_bits};
-use btf_accept::Btf;
 use btf_kinds::{BTF_KIND_ARRAY, BTF_KIND_STRUCT, Entry};
-use btf_view::{count_of, entry_of, extra_of, flag_of, kind_of, ref_of};
+use btf_view::Types;
 use rules::{Accessor, Refusal, Resolved, Sized, Step};
 use types_chain::{is_composite, resolve_type, type_size};
 
@@ -31,10 +30,10 @@ pub enum Placed {
 }
 
 // Where a member lies in its type, in bits.
-pub fn member_bits(bytes: &[u8], table: &[u32], btf: Btf, id: u32, member: Entry) -> u32
-    ensures { result ≡ member_bits ((lent bytes table btf).typ id) member }
+pub fn member_bits(types: &Types, id: u32, member: Entry) -> u32
+    ensures { result ≡ member_bits ((lent types.now).typ id) member }
 {
-    if flag_of(bytes, table, btf, id) == 1 {
+    if types.flag_of(id) == 1 {
         member.low % 16777216
     } else {
         member.low
@@ -42,15 +41,15 @@ pub fn member_bits(bytes: &[u8], table: &[u32], btf: Btf, id: u32, member: Entry
 }
 
 // To the member `index` of a type. Without a name it adds its bits and no accessor.
-fn local_member(bytes: &[u8], table: &[u32], btf: Btf, id: u32, bits: u64, index: u64) -> Stepped
-    ensures { step_of result ≡ local_member bits index id ((lent bytes table btf).typ id) }
+fn local_member(types: &Types, id: u32, bits: u64, index: u64) -> Stepped
+    ensures { step_of result ≡ local_member bits index id ((lent types.now).typ id) }
 {
-    let count = count_of(bytes, table, btf, id);
+    let count = types.count_of(id);
     if index >= count as u64 {
         return Stepped::Refused(Refusal::IndexTooBig(index, count));
     }
-    let member = entry_of(bytes, table, btf, id, index as u32);
-    let sum = bits_sum(bits, member_bits(bytes, table, btf, id, member) as u64);
+    let member = types.entry_of(id, index as u32);
+    let sum = bits_sum(bits, member_bits(types, id, member) as u64);
     let Bits::At(at) = sum else {
         return Stepped::Refused(Refusal::BitsTooBig);
     };
@@ -67,17 +66,10 @@ fn local_member(bytes: &[u8], table: &[u32], btf: Btf, id: u32, bits: u64, index
 }
 
 // Where the element `index` of a type lies, in an array that begins at some bits.
-pub fn placed_element(
-    bytes: &[u8],
-    table: &[u32],
-    btf: Btf,
-    id: u32,
-    bits: u64,
-    index: u64,
-) -> Placed
-    ensures { placed_of result ≡ element_bits (lent bytes table btf).typ bits index id }
+pub fn placed_element(types: &Types, id: u32, bits: u64, index: u64) -> Placed
+    ensures { placed_of result ≡ element_bits (lent types.now).typ bits index id }
 {
-    let z = type_size(bytes, table, btf, id);
+    let z = type_size(types, id);
     let Sized::Bytes(size) = z else {
         return Placed::Refused(Refusal::Unresolved);
     };
@@ -93,16 +85,16 @@ pub fn placed_element(
 }
 
 // SECOND ODDITY: a local array of 0 elements is open where the ARRAY INDEX is that of its struct's last member.
-fn local_open(bytes: &[u8], table: &[u32], btf: Btf, array: u32, parent: u32, index: u64) -> bool
-    ensures { result ≡ local_open ((lent bytes table btf).typ array) ((lent bytes table btf).typ parent) index }
+fn local_open(types: &Types, array: u32, parent: u32, index: u64) -> bool
+    ensures { result ≡ local_open ((lent types.now).typ array) ((lent types.now).typ parent) index }
 {
-    if extra_of(bytes, table, btf, array) != 0 {
+    if types.extra_of(array) != 0 {
         return false;
     }
-    if kind_of(bytes, table, btf, parent) != BTF_KIND_STRUCT {
+    if types.kind_of(parent) != BTF_KIND_STRUCT {
         return false;
     }
-    let count = count_of(bytes, table, btf, parent);
+    let count = types.count_of(parent);
     if index >= count as u64 {
         return false;
     }
@@ -110,10 +102,10 @@ fn local_open(bytes: &[u8], table: &[u32], btf: Btf, array: u32, parent: u32, in
 }
 
 // To the element `index`, of a type.
-fn to_element(bytes: &[u8], table: &[u32], btf: Btf, id: u32, bits: u64, index: u64) -> Stepped
-    ensures { step_of result ≡ bind (element_bits (lent bytes table btf).typ bits index id) (λ b. step_by id index b) }
+fn to_element(types: &Types, id: u32, bits: u64, index: u64) -> Stepped
+    ensures { step_of result ≡ bind (element_bits (lent types.now).typ bits index id) (λ b. step_by id index b) }
 {
-    let p = placed_element(bytes, table, btf, id, bits, index);
+    let p = placed_element(types, id, bits, index);
     match p {
         Placed::Refused(r) => Stepped::Refused(r),
         Placed::At(at) => {
@@ -128,78 +120,53 @@ fn to_element(bytes: &[u8], table: &[u32], btf: Btf, id: u32, bits: u64, index: 
 }
 
 // To the element `index` of an array, its type being resolved; `parent` is the type of the accessor before it.
-fn local_element(
-    bytes: &[u8],
-    table: &[u32],
-    btf: Btf,
-    array: u32,
-    parent: u32,
-    id: u32,
-    bits: u64,
-    index: u64,
-) -> Stepped
-    ensures { step_of result ≡ local_element (lent bytes table btf).typ ((lent bytes table btf).typ parent) bits index ((lent bytes table btf).typ array) id }
+fn local_element(types: &Types, array: u32, parent: u32, id: u32, bits: u64, index: u64) -> Stepped
+    ensures { step_of result ≡ local_element (lent types.now).typ ((lent types.now).typ parent) bits index ((lent types.now).typ array) id }
 {
-    if local_open(bytes, table, btf, array, parent, index) {
-        return to_element(bytes, table, btf, id, bits, index);
+    if local_open(types, array, parent, index) {
+        return to_element(types, id, bits, index);
     }
-    let count = extra_of(bytes, table, btf, array);
+    let count = types.extra_of(array);
     if index >= count as u64 {
         return Stepped::Refused(Refusal::IndexTooBig(index, count));
     }
-    to_element(bytes, table, btf, id, bits, index)
+    to_element(types, id, bits, index)
 }
 
 // One part, at a type that is no modifier.
-fn local_step(
-    bytes: &[u8],
-    table: &[u32],
-    btf: Btf,
-    parent: u32,
-    id: u32,
-    bits: u64,
-    index: u64,
-) -> Stepped
-    ensures { step_of result ≡ local_step (lent bytes table btf).typ ((lent bytes table btf).typ parent) bits index id }
+fn local_step(types: &Types, parent: u32, id: u32, bits: u64, index: u64) -> Stepped
+    ensures { step_of result ≡ local_step (lent types.now).typ ((lent types.now).typ parent) bits index id }
 {
-    let kind = kind_of(bytes, table, btf, id);
+    let kind = types.kind_of(id);
     if is_composite(kind) {
-        return local_member(bytes, table, btf, id, bits, index);
+        return local_member(types, id, bits, index);
     }
     if kind != BTF_KIND_ARRAY {
         return Stepped::Refused(Refusal::WrongKind);
     }
-    let r = resolve_type(bytes, table, btf, ref_of(bytes, table, btf, id));
+    let r = resolve_type(types, types.ref_of(id));
     let Resolved::At(element) = r else {
         return Stepped::Refused(Refusal::Unresolved);
     };
-    local_element(bytes, table, btf, id, parent, element, bits, index)
+    local_element(types, id, parent, element, bits, index)
 }
 
 // One part, at any type: its modifiers are passed first.
-pub fn next_step(
-    bytes: &[u8],
-    table: &[u32],
-    btf: Btf,
-    parent: u32,
-    id: u32,
-    bits: u64,
-    index: u64,
-) -> Stepped
-    ensures { step_of result ≡ next_step (lent bytes table btf).typ parent bits index id }
+pub fn next_step(types: &Types, parent: u32, id: u32, bits: u64, index: u64) -> Stepped
+    ensures { step_of result ≡ next_step (lent types.now).typ parent bits index id }
 {
-    let r = resolve_type(bytes, table, btf, id);
+    let r = resolve_type(types, id);
     let Resolved::At(at) = r else {
         return Stepped::Refused(Refusal::Unresolved);
     };
-    local_step(bytes, table, btf, parent, at, bits, index)
+    local_step(types, parent, at, bits, index)
 }
 
 // Where the first index begins.
-pub fn placed_first(bytes: &[u8], table: &[u32], btf: Btf, id: u32, index: u64) -> Placed
-    ensures { placed_of result ≡ first_bits (lent bytes table btf).typ index id }
+pub fn placed_first(types: &Types, id: u32, index: u64) -> Placed
+    ensures { placed_of result ≡ first_bits (lent types.now).typ index id }
 {
-    let z = type_size(bytes, table, btf, id);
+    let z = type_size(types, id);
     let Sized::Bytes(size) = z else {
         return Placed::Refused(Refusal::Unresolved);
     };

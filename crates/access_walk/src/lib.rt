@@ -12,8 +12,7 @@ ghost use Rattle.access_walk.specs.Replies.{walked_on, access_of, Room, Begun, F
 
 use access_step::{Placed, Stepped, next_step, placed_first};
 use access_text::{Parsed, Parsing, count_in};
-use btf_accept::Btf;
-use btf_view::{count_of, kind_of};
+use btf_view::Types;
 use rules::{Accessor, FIELD_RSHIFT, Refusal, Step, TYPE_SIZE};
 use types_chain::is_enum;
 
@@ -117,16 +116,8 @@ pub fn refuse(refusal: Refusal) -> Accessed
 }
 
 // The parts after the first, which was an index of a type that begins at some bits.
-fn walk_on(
-    bytes: &[u8],
-    table: &[u32],
-    btf: Btf,
-    id: u32,
-    index: u64,
-    bits: u64,
-    parts: Parsed,
-) -> Accessed
-    ensures { access_of result ≡ walked_on (lent bytes table btf).typ (begun id index bits) (list_in parts) }
+fn walk_on(types: &Types, id: u32, index: u64, bits: u64, parts: Parsed) -> Accessed
+    ensures { access_of result ≡ walked_on (lent types.now).typ (begun id index bits) (list_in parts) }
 {
     let count = count_in(parts);
     let numbers = parts.parts;
@@ -134,7 +125,7 @@ fn walk_on(
     let mut i: usize = 1;
     while i < count {
         let parent = parent_of(walk);
-        let s = next_step(bytes, table, btf, parent, walk.typ, walk.bits, numbers[i]);
+        let s = next_step(types, parent, walk.typ, walk.bits, numbers[i]);
         match s {
             Stepped::Refused(r) => {
                 return refuse(r);
@@ -153,18 +144,18 @@ fn walk_on(
 }
 
 // A field of a type: the first index, then members and elements.
-fn field_access(bytes: &[u8], table: &[u32], btf: Btf, id: u32, parts: Parsed) -> Accessed
-    ensures { access_of result ≡ field_access (lent bytes table btf).typ id (list_in parts) }
+fn field_access(types: &Types, id: u32, parts: Parsed) -> Accessed
+    ensures { access_of result ≡ field_access (lent types.now).typ id (list_in parts) }
 {
     if count_in(parts) == 0 {
         return refuse(Refusal::BadAccess);
     }
     let numbers = parts.parts;
     let index = numbers[0];
-    let p = placed_first(bytes, table, btf, id, index);
+    let p = placed_first(types, id, index);
     match p {
         Placed::Refused(r) => refuse(r),
-        Placed::At(bits) => walk_on(bytes, table, btf, id, index, bits, parts),
+        Placed::At(bits) => walk_on(types, id, index, bits, parts),
     }
 }
 
@@ -183,15 +174,15 @@ fn type_access(parts: Parsed) -> Accessed
 }
 
 // A variant takes exactly one part, below the number of variants.
-fn variant_access(bytes: &[u8], table: &[u32], btf: Btf, id: u32, parts: Parsed) -> Accessed
-    ensures { access_of result ≡ variant_at id (length ((lent bytes table btf).typ id).entries) (list_in parts) }
+fn variant_access(types: &Types, id: u32, parts: Parsed) -> Accessed
+    ensures { access_of result ≡ variant_at id (length ((lent types.now).typ id).entries) (list_in parts) }
 {
     if count_in(parts) != 1 {
         return refuse(Refusal::BadAccess);
     }
     let numbers = parts.parts;
     let index = numbers[0];
-    let count = count_of(bytes, table, btf, id);
+    let count = types.count_of(id);
     if index >= count as u64 {
         return refuse(Refusal::IndexTooBig(index, count));
     }
@@ -199,26 +190,19 @@ fn variant_access(bytes: &[u8], table: &[u32], btf: Btf, id: u32, parts: Parsed)
 }
 
 // A variant of an enum; any other type is the wrong kind, whatever the parts.
-fn enum_access(bytes: &[u8], table: &[u32], btf: Btf, id: u32, parts: Parsed) -> Accessed
-    ensures { access_of result ≡ enum_access (lent bytes table btf).typ id (list_in parts) }
+fn enum_access(types: &Types, id: u32, parts: Parsed) -> Accessed
+    ensures { access_of result ≡ enum_access (lent types.now).typ id (list_in parts) }
 {
-    if is_enum(kind_of(bytes, table, btf, id)) {
-        return variant_access(bytes, table, btf, id, parts);
+    if is_enum(types.kind_of(id)) {
+        return variant_access(types, id, parts);
     }
     refuse(Refusal::WrongKind)
 }
 
 // What a record of a kind accesses, at a type that is no modifier, by the parts of its access string. Parts that were
 // refused stay refused.
-pub fn local_access(
-    bytes: &[u8],
-    table: &[u32],
-    btf: Btf,
-    kind: u32,
-    id: u32,
-    parts: Parsed,
-) -> Accessed
-    ensures { access_of result ≡ bind (parts_of parts) (local_access (lent bytes table btf) kind id) }
+pub fn local_access(types: &Types, kind: u32, id: u32, parts: Parsed) -> Accessed
+    ensures { access_of result ≡ bind (parts_of parts) (local_access (lent types.now) kind id) }
 {
     let answer = parts.answer;
     match answer {
@@ -231,10 +215,10 @@ pub fn local_access(
         Parsing::Parts => {}
     }
     if kind <= FIELD_RSHIFT {
-        return field_access(bytes, table, btf, id, parts);
+        return field_access(types, id, parts);
     }
     if kind <= TYPE_SIZE {
         return type_access(parts);
     }
-    enum_access(bytes, table, btf, id, parts)
+    enum_access(types, id, parts)
 }

@@ -7,7 +7,7 @@ ghost use Rattle.rules.specs.Record.{record_of, apply};
 ghost use Rattle.call_conclude.specs.Replies.{write_of};
 ghost use Rattle.call_apply.specs.Applied.{outcome_of};
 
-use btf_accept::Btf;
+use btf_view::Types;
 use call_compute::record_write;
 use call_conclude::{Relocated, shown_answer};
 use insn_fields::Patched;
@@ -32,17 +32,13 @@ fn apply_write(insns: &mut [u8], index: u32, computed: Relocated) -> Answer
 
 // One record.
 pub fn apply_record(
-    local: &[u8],
-    ltable: &[u32],
-    lbtf: Btf,
-    target: &[u8],
-    ttable: &[u32],
-    tbtf: Btf,
+    local: &Types,
+    target: &Types,
     insns: &mut [u8],
     section: u64,
     relo: Record,
 ) -> Answer
-    ensures { outcome_of result insns.new ≡ record_of (lent local ltable lbtf) (lent target ttable tbtf) section insns.old relo }
+    ensures { outcome_of result insns.new ≡ record_of (lent local.now) (lent target.now) section insns.old relo }
 {
     let beyond = ENUM_VARIANT_VALUE < relo.kind;
     if beyond {
@@ -56,6 +52,6 @@ pub fn apply_record(
     if index as usize >= insns.len() / 8 {
         return Answer::Refused(Refusal::NotInFunction);
     }
-    let computed = record_write(local, ltable, lbtf, target, ttable, tbtf, relo);
+    let computed = record_write(local, target, relo);
     apply_write(insns, index as u32, computed)
 }

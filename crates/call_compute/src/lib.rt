@@ -17,8 +17,7 @@ ghost use Rattle.call_compute.specs.Endless.{endless_after};
 
 use access_text::{Parsed, Parsing, parse_access};
 use access_walk::{Accessed, Reach, local_access, refuse};
-use btf_accept::Btf;
-use btf_view::{room_of, text_of};
+use btf_view::Types;
 use call_conclude::{Relocated, conclude_from, write_computed};
 use match_fold::match_candidates;
 use rules::{Accessor, Record, Refusal, Resize, Resolved, TYPE_ID_LOCAL, Write};
@@ -61,19 +60,19 @@ fn unresolved_after(parts: Parsed) -> Accessed
 }
 
 // What a record accesses, from its type id on.
-fn record_access(bytes: &[u8], table: &[u32], btf: Btf, relo: Record) -> Accessed
-    ensures { access_of result ≡ accessed (lent bytes table btf) relo }
+fn record_access(types: &Types, relo: Record) -> Accessed
+    ensures { access_of result ≡ accessed (lent types.now) relo }
 {
-    if btf.last < relo.typ {
+    if types.btf.last < relo.typ {
         return refuse(Refusal::Unresolved);
     }
-    if room_of(bytes, btf) <= relo.access as usize {
+    if types.room() <= relo.access as usize {
         return refuse(Refusal::Unresolved);
     }
-    let parts = parse_access(text_of(bytes, btf, relo.access));
-    let end = resolve_type(bytes, table, btf, relo.typ);
+    let parts = parse_access(types.text_of(relo.access));
+    let end = resolve_type(types, relo.typ);
     match end {
-        Resolved::At(id) => local_access(bytes, table, btf, relo.kind, id, parts),
+        Resolved::At(id) => local_access(types, relo.kind, id, parts),
         Resolved::Endless => unresolved_after(parts),
     }
 }
@@ -98,38 +97,23 @@ fn last_step(access: Accessed, count: usize) -> Accessor
 }
 
 // The record's own, local, value.
-fn own_value(bytes: &[u8], table: &[u32], btf: Btf, kind: u32, access: Accessed) -> Valued
-    ensures { reply_of result ≡ bind (access_of access) (local_value (lent bytes table btf).typ kind) }
+fn own_value(types: &Types, kind: u32, access: Accessed) -> Valued
+    ensures { reply_of result ≡ bind (access_of access) (local_value (lent types.now).typ kind) }
 {
     let reach = access.reach;
     match reach {
         Reach::Refused(why) => Valued::Refused(why),
-        Reach::Path(count, bits) => field_value(
-            bytes,
-            table,
-            btf,
-            kind,
-            last_step(access, count),
-            bits,
-        ),
+        Reach::Path(count, bits) => field_value(types, kind, last_step(access, count), bits),
         Reach::Whole => Valued::Known(plain_value(0)),
         Reach::Variant(id, k) => Valued::Known(plain_value(0)),
     }
 }
 
 // What a record writes, before any instruction is looked at. `TypeIdLocal` writes its own type id and looks at no target.
-pub fn record_write(
-    local: &[u8],
-    ltable: &[u32],
-    lbtf: Btf,
-    target: &[u8],
-    ttable: &[u32],
-    tbtf: Btf,
-    relo: Record,
-) -> Relocated
-    ensures { write_of result ≡ rule.relocated (lent local ltable lbtf) (lent target ttable tbtf) relo }
+pub fn record_write(local: &Types, target: &Types, relo: Record) -> Relocated
+    ensures { write_of result ≡ rule.relocated (lent local.now) (lent target.now) relo }
 {
-    let access = record_access(local, ltable, lbtf, relo);
+    let access = record_access(local, relo);
     let reach = access.reach;
     if let Reach::Refused(why) = reach {
         return Relocated::Refused(why);
@@ -137,10 +121,8 @@ pub fn record_write(
     if relo.kind == TYPE_ID_LOCAL {
         return Relocated::Writes(Write::Put(relo.typ as u64, Resize::Same));
     }
-    let mine = own_value(local, ltable, lbtf, relo.kind, access);
-    let kept = match_candidates(
-        local, ltable, lbtf, target, ttable, tbtf, relo, access, mine,
-    );
+    let mine = own_value(local, relo.kind, access);
+    let kept = match_candidates(local, target, relo, access, mine);
     let theirs = conclude_from(relo.kind, kept);
-    write_computed(local, ltable, lbtf, target, ttable, tbtf, mine, theirs)
+    write_computed(local, target, mine, theirs)
 }

@@ -9,9 +9,8 @@ ghost use Rattle.rules.specs.Record.{resizable, resizing, writing, absent, concl
 ghost use Rattle.value_member.specs.Replies.{reply_of};
 ghost use Rattle.call_conclude.specs.Replies.{worth_of, write_of};
 
-use btf_accept::Btf;
 use btf_kinds::{BTF_KIND_INT, BTF_KIND_PTR};
-use btf_view::{extra_of, kind_of};
+use btf_view::Types;
 use rules::{
     Answer, ENUM_VARIANT_EXISTS, FIELD_EXISTS, Matches, Refusal, Resize, TYPE_EXISTS,
     TYPE_ID_TARGET, TYPE_SIZE, Typing, Value, Worth, Write,
@@ -33,27 +32,18 @@ pub enum Relocated {
 }
 
 // Whether the type with an id, an INT, is signed.
-fn int_signed(bytes: &[u8], table: &[u32], btf: Btf, id: u32) -> bool
-    ensures { result ≡ int_signed ((lent bytes table btf).typ id) }
+fn int_signed(types: &Types, id: u32) -> bool
+    ensures { result ≡ int_signed ((lent types.now).typ id) }
 {
-    extra_of(bytes, table, btf, id) / 16777216 % 2 == 1
+    types.extra_of(id) / 16777216 % 2 == 1
 }
 
 // Both pointers, or both unsigned INTs.
-fn exchangeable(
-    local: &[u8],
-    ltable: &[u32],
-    lbtf: Btf,
-    target: &[u8],
-    ttable: &[u32],
-    tbtf: Btf,
-    a: u32,
-    b: u32,
-) -> bool
-    ensures { result ≡ resizable ((lent local ltable lbtf).typ a) ((lent target ttable tbtf).typ b) }
+fn exchangeable(local: &Types, target: &Types, a: u32, b: u32) -> bool
+    ensures { result ≡ resizable ((lent local.now).typ a) ((lent target.now).typ b) }
 {
-    let kind = kind_of(local, ltable, lbtf, a);
-    if kind_of(target, ttable, tbtf, b) != kind {
+    let kind = local.kind_of(a);
+    if target.kind_of(b) != kind {
         return false;
     }
     if kind == BTF_KIND_PTR {
@@ -62,24 +52,15 @@ fn exchangeable(
     if kind != BTF_KIND_INT {
         return false;
     }
-    if int_signed(local, ltable, lbtf, a) {
+    if int_signed(local, a) {
         return false;
     }
-    !int_signed(target, ttable, tbtf, b)
+    !int_signed(target, b)
 }
 
 // The change of size from the local value to the target's.
-fn resize_between(
-    local: &[u8],
-    ltable: &[u32],
-    lbtf: Btf,
-    target: &[u8],
-    ttable: &[u32],
-    tbtf: Btf,
-    mine: Value,
-    theirs: Value,
-) -> Resize
-    ensures { result ≡ resizing (lent local ltable lbtf).typ (lent target ttable tbtf).typ mine theirs }
+fn resize_between(local: &Types, target: &Types, mine: Value, theirs: Value) -> Resize
+    ensures { result ≡ resizing (lent local.now).typ (lent target.now).typ mine theirs }
 {
     let size = theirs.size;
     if mine.size == size {
@@ -93,29 +74,20 @@ fn resize_between(
     let Typing::Typed(b) = y else {
         return Resize::OneSided;
     };
-    if exchangeable(local, ltable, lbtf, target, ttable, tbtf, a, b) {
+    if exchangeable(local, target, a, b) {
         return Resize::To(size);
     }
     Resize::Unlike
 }
 
 // What is written for a local value and the target's, if it has one.
-fn write_for(
-    local: &[u8],
-    ltable: &[u32],
-    lbtf: Btf,
-    target: &[u8],
-    ttable: &[u32],
-    tbtf: Btf,
-    mine: Value,
-    theirs: Worth,
-) -> Write
-    ensures { result ≡ writing (lent local ltable lbtf).typ (lent target ttable tbtf).typ mine theirs }
+fn write_for(local: &Types, target: &Types, mine: Value, theirs: Worth) -> Write
+    ensures { result ≡ writing (lent local.now).typ (lent target.now).typ mine theirs }
 {
     match theirs {
         Worth::Unknown => Write::Poison,
         Worth::Known(v) => {
-            let z = resize_between(local, ltable, lbtf, target, ttable, tbtf, mine, v);
+            let z = resize_between(local, target, mine, v);
             Write::Put(v.number, z)
         }
     }
@@ -168,17 +140,8 @@ pub fn conclude_from(kind: u32, matches: Matches) -> Concluded
 }
 
 // The target's value comes first, then the local one, which must be there.
-pub fn write_computed(
-    local: &[u8],
-    ltable: &[u32],
-    lbtf: Btf,
-    target: &[u8],
-    ttable: &[u32],
-    tbtf: Btf,
-    mine: Valued,
-    theirs: Concluded,
-) -> Relocated
-    ensures { write_of result ≡ computed (lent local ltable lbtf).typ (lent target ttable tbtf).typ (reply_of mine) (worth_of theirs) }
+pub fn write_computed(local: &Types, target: &Types, mine: Valued, theirs: Concluded) -> Relocated
+    ensures { write_of result ≡ computed (lent local.now).typ (lent target.now).typ (reply_of mine) (worth_of theirs) }
 {
     match theirs {
         Concluded::Refused(why) => Relocated::Refused(why),
@@ -186,7 +149,7 @@ pub fn write_computed(
             match mine {
                 Valued::Refused(why) => Relocated::Refused(why),
                 Valued::Known(v) => {
-                    let w = write_for(local, ltable, lbtf, target, ttable, tbtf, v, worth);
+                    let w = write_for(local, target, v, worth);
                     Relocated::Writes(w)
                 }
             }

@@ -6,7 +6,7 @@ ghost use Rattle.btf_view.specs.Lent.{lent};
 ghost use Rattle.rules.specs.Call.{ended, shaped, run_of, relocate_read};
 ghost use Rattle.call_records.specs.Run.{effect_of};
 
-use btf_accept::Btf;
+use btf_view::Types;
 use call_apply::apply_record;
 use call_compute::record_at;
 use rules::{Answer, Ending, Said};
@@ -15,33 +15,19 @@ const MAX_INSNS: usize = 4096;
 
 // The records in order, up to the first refusal.
 pub fn run_records(
-    local: &[u8],
-    ltable: &[u32],
-    lbtf: Btf,
-    target: &[u8],
-    ttable: &[u32],
-    tbtf: Btf,
+    local: &Types,
+    target: &Types,
     insns: &mut [u8],
     section: u64,
     records: &[u8],
 ) -> Said
     ensures { effect_of result insns.new
-        ≡ run_of (lent local ltable lbtf) (lent target ttable tbtf) section insns.old records.now }
+        ≡ run_of (lent local.now) (lent target.now) section insns.old records.now }
 {
     let n = records.len() / 16;
     let mut k: usize = 0;
     while k < n {
-        let a = apply_record(
-            local,
-            ltable,
-            lbtf,
-            target,
-            ttable,
-            tbtf,
-            insns,
-            section,
-            record_at(records, k),
-        );
+        let a = apply_record(local, target, insns, section, record_at(records, k));
         if let Answer::Refused(why) = a {
             return Said {
                 ending: Ending::Stopped(k as u64, why),
@@ -85,23 +71,17 @@ pub fn unrun(ending: Ending) -> Said
 // Applies the records to a function, between two BTFs that were read before. Answers for any bytes, any tables and any
 // places: what stands at an id is what the tables say.
 pub fn relocate_read(
-    local: &[u8],
-    ltable: &[u32],
-    lbtf: Btf,
-    target: &[u8],
-    ttable: &[u32],
-    tbtf: Btf,
+    local: &Types,
+    target: &Types,
     insns: &mut [u8],
     section: u64,
     records: &[u8],
 ) -> Said
     ensures { effect_of result insns.new
-        ≡ relocate_read (lent local ltable lbtf) (lent target ttable tbtf) insns.old section records.now }
+        ≡ relocate_read (lent local.now) (lent target.now) insns.old section records.now }
 {
     if !shape_fine(insns, section, records) {
         return unrun(Ending::Misshapen);
     }
-    run_records(
-        local, ltable, lbtf, target, ttable, tbtf, insns, section, records,
-    )
+    run_records(local, target, insns, section, records)
 }

@@ -8,7 +8,8 @@ ghost use Rattle.rules.specs.Call.{relocate_of, local_table, target_table};
 ghost use Rattle.call_records.specs.Run.{effect_of};
 ghost use Rattle.call_relocate.specs.Reading.{unread_of, on_target};
 
-use btf_accept::{Btf, Reading, read};
+use btf_accept::{Reading, read};
+use btf_view::Types;
 use call_records::{run_records, shape_fine, unrun};
 use rules::{Ending, Said, Which};
 
@@ -26,9 +27,7 @@ fn unread(which: Which, reading: Reading) -> Ending
 
 // The target read, and the records applied, where the local BTF was read before.
 fn relocate_on(
-    local: &[u8],
-    ltable: &[u32],
-    lbtf: Btf,
+    local: &Types,
     target: &[u8],
     ttable: &mut [u32],
     insns: &mut [u8],
@@ -36,14 +35,17 @@ fn relocate_on(
     records: &[u8],
 ) -> Said
     ensures effect { effect_of result insns.new
-        ≡ on_target (lent local ltable lbtf) target.now (length ttable.old) insns.old section records.now }
+        ≡ on_target (lent local.now) target.now (length ttable.old) insns.old section records.now }
     ensures table { ttable.new ≡ tabled target.now ttable.old }
 {
     let t = read(target, ttable);
-    if let Reading::Read(tbtf) = t {
-        return run_records(
-            local, ltable, lbtf, target, ttable, tbtf, insns, section, records,
-        );
+    if let Reading::Read(btf) = t {
+        let target = Types {
+            bytes: target,
+            table: ttable,
+            btf,
+        };
+        return run_records(local, &target, insns, section, records);
     }
     unrun(unread(Which::Target, t))
 }
@@ -70,8 +72,13 @@ pub fn relocate(
         return unrun(Ending::Misshapen);
     }
     let l = read(local, ltable);
-    if let Reading::Read(lbtf) = l {
-        return relocate_on(local, ltable, lbtf, target, ttable, insns, section, records);
+    if let Reading::Read(btf) = l {
+        let local = Types {
+            bytes: local,
+            table: ltable,
+            btf,
+        };
+        return relocate_on(&local, target, ttable, insns, section, records);
     }
     unrun(unread(Which::Local, l))
 }

@@ -9,7 +9,7 @@ ghost use Rattle.rules.specs.Report.{answered, report_said};
 ghost use Rattle.call_lines.specs.Pieces.{Wrote};
 ghost use Rattle.call_report.specs.Reported.{lines_again, lines_last, reported, holding};
 
-use btf_accept::Btf;
+use btf_view::Types;
 use call_compute::{record_at, record_write};
 use call_conclude::{Relocated, shown_answer};
 use call_lines::{near, put_record};
@@ -23,18 +23,10 @@ pub enum Reported {
 }
 
 // What a record was answered, by what it writes.
-fn answer_again(
-    local: &[u8],
-    ltable: &[u32],
-    lbtf: Btf,
-    target: &[u8],
-    ttable: &[u32],
-    tbtf: Btf,
-    relo: Record,
-) -> Answer
-    ensures { result ≡ answered (rule.relocated (lent local ltable lbtf) (lent target ttable tbtf) relo) }
+fn answer_again(local: &Types, target: &Types, relo: Record) -> Answer
+    ensures { result ≡ answered (rule.relocated (lent local.now) (lent target.now) relo) }
 {
-    match record_write(local, ltable, lbtf, target, ttable, tbtf, relo) {
+    match record_write(local, target, relo) {
         Relocated::Writes(write) => shown_answer(write),
         Relocated::Refused(refusal) => Answer::Refused(refusal),
     }
@@ -56,22 +48,18 @@ fn index_of(section: u64, offset: u32) -> u64
 fn put_applied(
     out: &mut [u8],
     at: u64,
-    local: &[u8],
-    ltable: &[u32],
-    lbtf: Btf,
-    target: &[u8],
-    ttable: &[u32],
-    tbtf: Btf,
+    local: &Types,
+    target: &Types,
     section: u64,
     records: &[u8],
     k: u64,
 ) -> u64
     requires { 16 * k + 16 ≤ length records.now }
-    ensures { Wrote out.old at (lines_again (lent local ltable lbtf) (lent target ttable tbtf) section records.now k)
+    ensures { Wrote out.old at (lines_again (lent local.now) (lent target.now) section records.now k)
         out.new result }
 {
     let relo = record_at(records, k as usize);
-    let answer = answer_again(local, ltable, lbtf, target, ttable, tbtf, relo);
+    let answer = answer_again(local, target, relo);
     put_record(out, at, k, index_of(section, relo.offset), answer)
 }
 
@@ -105,17 +93,13 @@ fn least(a: u64, b: u64) -> u64
 // The whole report, as far as it fits.
 fn put_said(
     out: &mut [u8],
-    local: &[u8],
-    ltable: &[u32],
-    lbtf: Btf,
-    target: &[u8],
-    ttable: &[u32],
-    tbtf: Btf,
+    local: &Types,
+    target: &Types,
     section: u64,
     records: &[u8],
     said: Said,
 ) -> u64
-    ensures { Wrote out.old 0 (report_said (lent local ltable lbtf) (lent target ttable tbtf) section
+    ensures { Wrote out.old 0 (report_said (lent local.now) (lent target.now) section
         (records_in records.now) said) out.new result }
 {
     let count = (records.len() / 16) as u64;
@@ -125,9 +109,7 @@ fn put_said(
     let mut at = 0;
     let mut k = 0;
     while k < answered {
-        at = put_applied(
-            out, at, local, ltable, lbtf, target, ttable, tbtf, section, records, k,
-        );
+        at = put_applied(out, at, local, target, section, records, k);
         k += 1;
     }
     put_last(out, at, section, records, k, ending)
@@ -135,39 +117,22 @@ fn put_said(
 
 // The report into a lent buffer; nothing is written where it does not fit.
 pub fn report(
-    local: &[u8],
-    ltable: &[u32],
-    lbtf: Btf,
-    target: &[u8],
-    ttable: &[u32],
-    tbtf: Btf,
+    local: &Types,
+    target: &Types,
     section: u64,
     records: &[u8],
     said: Said,
     out: &mut [u8],
 ) -> Reported
-    ensures answer { result ≡ reported (report_said (lent local ltable lbtf) (lent target ttable tbtf) section (records_in records.now) said)
+    ensures answer { result ≡ reported (report_said (lent local.now) (lent target.now) section (records_in records.now) said)
         out.old }
     ensures buffer { out.new ≡ holding
-        (report_said (lent local ltable lbtf) (lent target ttable tbtf) section (records_in records.now) said) out.old }
+        (report_said (lent local.now) (lent target.now) section (records_in records.now) said) out.old }
 {
-    let needed = put_said(
-        &mut out[..0],
-        local,
-        ltable,
-        lbtf,
-        target,
-        ttable,
-        tbtf,
-        section,
-        records,
-        said,
-    );
+    let needed = put_said(&mut out[..0], local, target, section, records, said);
     let too_long = needed > out.len() as u64;
     if too_long {
         return Reported::Needed(needed);
     }
-    Reported::Written(put_said(
-        out, local, ltable, lbtf, target, ttable, tbtf, section, records, said,
-    ))
+    Reported::Written(put_said(out, local, target, section, records, said))
 }

@@ -5,13 +5,16 @@
 ghost use Rattle.std.specs.Prelude.{◌≡◌, length};
 ghost use Rattle.std.proofs.lemmas.List.Edits.{sets};
 ghost use Rattle.btf_accept.specs.Table.{decode, tabled};
+ghost use Rattle.btf_view.specs.Lent.{lent};
+ghost use Rattle.btf_view.specs.View.{tab_view};
 ghost use Rattle.rules.specs.Call.{relocate_read};
 ghost use Rattle.call_report.specs.Reported.{reported, holding};
-ghost use Rattle.leamugi_numbers.specs.Numbers.{five, read_numbers, type_numbers, entry_numbers};
+ghost use Rattle.leamugi_numbers.specs.Numbers.{btf_of, five, read_numbers, type_numbers, entry_numbers};
 ghost use Rattle.leamugi_numbers.specs.Endings.{said_numbers};
 ghost use Rattle.leamugi.specs.Calls.{lent_read, reported_five, length_of, reported_numbers, report_of};
 
 use btf_accept::read;
+use btf_view::Types;
 use call_records::relocate_read;
 use call_report::{Reported, report};
 use leamugi_numbers::{
@@ -32,6 +35,17 @@ pub extern "C" fn leamugi_read(btf: &[u8], table: &mut [u32], said: &mut [u64]) 
     reading.number
 }
 
+// The types of a BTF that was read before, as the numbers of that reading say where they lie.
+fn read_before<'a>(btf: &'a [u8], table: &'a [u32], read: &[u64]) -> Types<'a>
+    ensures { lent result ≡ tab_view btf.now table.now (btf_of read.now) }
+{
+    Types {
+        bytes: btf,
+        table,
+        btf: btf_from(read),
+    }
+}
+
 // What stands at an id of a BTF that was read. Answers the kind, 0 for void and past the last id, and says beside it: the
 // name's offset in the strings and its length, the size, the type referred to, how many entries.
 #[unsafe(no_mangle)]
@@ -45,7 +59,7 @@ pub extern "C" fn leamugi_type(
     ensures number { result ≡ (type_numbers (lent_read btf table read) id).number }
     ensures said { said.new ≡ sets said.old 0 (five (type_numbers (lent_read btf table read) id)) }
 {
-    let found = type_numbers(btf, table, btf_from(read), id);
+    let found = type_numbers(&read_before(btf, table, read), id);
     put_five(said, found);
     found.number
 }
@@ -64,7 +78,7 @@ pub extern "C" fn leamugi_entry(
     ensures number { result ≡ (entry_numbers (lent_read btf table read) id k).number }
     ensures said { said.new ≡ sets said.old 0 (five (entry_numbers (lent_read btf table read) id k)) }
 {
-    let entry = entry_numbers(btf, table, btf_from(read), id, k);
+    let entry = entry_numbers(&read_before(btf, table, read), id, k);
     put_five(said, entry);
     entry.number
 }
@@ -92,12 +106,8 @@ pub extern "C" fn leamugi_relocate_read(
         (relocate_read (lent_read local ltable lread) (lent_read target ttable tread) insns.old section records.now).said)) }
 {
     let s = relocate_read(
-        local,
-        ltable,
-        btf_from(lread),
-        target,
-        ttable,
-        btf_from(tread),
+        &read_before(local, ltable, lread),
+        &read_before(target, ttable, tread),
         insns,
         section,
         records,
@@ -150,14 +160,12 @@ pub extern "C" fn leamugi_relocate_reported(
     ensures report { out.new ≡ holding
         (report_of (lent_read local ltable lread) (lent_read target ttable tread) insns.old section records.now) out.old }
 {
-    let l = btf_from(lread);
-    let t = btf_from(tread);
-    let s = relocate_read(local, ltable, l, target, ttable, t, insns, section, records);
+    let l = read_before(local, ltable, lread);
+    let t = read_before(target, ttable, tread);
+    let s = relocate_read(&l, &t, insns, section, records);
     let ending = s.ending;
     let n = ending_numbers(s.applied, ending);
-    let long = report_length(report(
-        local, ltable, l, target, ttable, t, section, records, s, out,
-    ));
+    let long = report_length(report(&l, &t, section, records, s, out));
     put_five(said, with_report(n, long));
     n.number
 }

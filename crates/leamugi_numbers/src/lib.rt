@@ -4,15 +4,13 @@
 
 ghost use Rattle.std.specs.Prelude.{◌≡◌, length, set, get_or};
 ghost use Rattle.std.proofs.lemmas.List.Edits.{sets};
-ghost use Rattle.btf_accept.specs.Sections.{strings_in};
-ghost use Rattle.btf_view.specs.Text.{text_at};
 ghost use Rattle.btf_view.specs.Lent.{lent};
 ghost use Rattle.leamugi_numbers.specs.Numbers.{numbered, five, btf_of, read_numbers, type_numbers, entry_numbers};
 ghost use Rattle.rules.specs.Call.{named};
 ghost use Rattle.leamugi_numbers.specs.Endings.{refusal_numbers, ending_numbers};
 
 use btf_accept::{Btf, Place, Reading};
-use btf_view::{count_of, entry_of, kind_of, name_of, ref_of, size_of, text_of};
+use btf_view::Types;
 use rules::{Ending, Refusal, Which};
 // An answer's number and the five beside it.
 #[derive(Clone, Copy)]
@@ -107,22 +105,22 @@ pub fn btf_from(said: &[u64]) -> Btf
 }
 
 // How long the name at an offset of the strings is.
-fn name_length(bytes: &[u8], btf: Btf, name: u32) -> u64
-    ensures { result ≡ length (text_at (strings_in bytes.now btf) name) }
+fn name_length(types: &Types, name: u32) -> u64
+    ensures { result ≡ length ((lent types.now).text name) }
 {
-    text_of(bytes, btf, name).len() as u64
+    types.text_of(name).len() as u64
 }
 
 // What stands at an id.
-pub fn type_numbers(bytes: &[u8], table: &[u32], btf: Btf, id: u32) -> Numbers
-    ensures { result ≡ type_numbers (lent bytes table btf) id }
+pub fn type_numbers(types: &Types, id: u32) -> Numbers
+    ensures { result ≡ type_numbers (lent types.now) id }
 {
-    let kind = kind_of(bytes, table, btf, id);
-    let name = name_of(bytes, table, btf, id);
-    let long = name_length(bytes, btf, name);
-    let size = size_of(bytes, table, btf, id);
-    let referred = ref_of(bytes, table, btf, id);
-    let count = count_of(bytes, table, btf, id);
+    let kind = types.kind_of(id);
+    let name = types.name_of(id);
+    let long = name_length(types, name);
+    let size = types.size_of(id);
+    let referred = types.ref_of(id);
+    let count = types.count_of(id);
     said_numbers(
         kind,
         name as u64,
@@ -134,12 +132,12 @@ pub fn type_numbers(bytes: &[u8], table: &[u32], btf: Btf, id: u32) -> Numbers
 }
 
 // The k-th entry of what stands at an id.
-pub fn entry_numbers(bytes: &[u8], table: &[u32], btf: Btf, id: u32, k: u32) -> Numbers
-    ensures { result ≡ entry_numbers (lent bytes table btf) id k }
+pub fn entry_numbers(types: &Types, id: u32, k: u32) -> Numbers
+    ensures { result ≡ entry_numbers (lent types.now) id k }
 {
-    let entry = entry_of(bytes, table, btf, id, k);
+    let entry = types.entry_of(id, k);
     let name = entry.name;
-    let long = name_length(bytes, btf, name);
+    let long = name_length(types, name);
     said_numbers(
         entry.typ,
         name as u64,

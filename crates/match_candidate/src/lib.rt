@@ -8,8 +8,8 @@ ghost use Rattle.rules.specs.Matching.{worth, field_match, field_event, origin a
 ghost use Rattle.rules.specs.declared.Search.TheVariants.{Found};
 ghost use Rattle.match_candidate.specs.Events.{variant_worth, type_events};
 
-use btf_accept::Btf;
 use btf_kinds::Entry;
+use btf_view::Types;
 use match_follow::path_step;
 use rules::{Accessor, Compat, ENUM_VARIANT_EXISTS, Event, Record, Refusal, Search, Target, Worth};
 use types_compat::types_are_compatible;
@@ -27,21 +27,12 @@ fn worth_event(v: Valued) -> Event
 }
 
 // What the target's type id gives, as a whole, to a record.
-pub fn type_event(
-    local: &[u8],
-    ltable: &[u32],
-    lbtf: Btf,
-    target: &[u8],
-    ttable: &[u32],
-    tbtf: Btf,
-    relo: Record,
-    id: u32,
-) -> Event
-    ensures { result ≡ type_events (lent local ltable lbtf) (lent target ttable tbtf) relo.kind relo.typ id }
+pub fn type_event(local: &Types, target: &Types, relo: Record, id: u32) -> Event
+    ensures { result ≡ type_events (lent local.now) (lent target.now) relo.kind relo.typ id }
 {
-    let fit = types_are_compatible(local, ltable, lbtf, target, ttable, tbtf, relo.typ, id);
+    let fit = types_are_compatible(local, target, relo.typ, id);
     match fit {
-        Compat::Compatible => worth_event(type_value(target, ttable, tbtf, relo.kind, id)),
+        Compat::Compatible => worth_event(type_value(target, relo.kind, id)),
         Compat::Different => Event::Nothing,
         Compat::Broken => Event::Bad(Refusal::Unresolved),
         Compat::Beyond => Event::Bad(Refusal::TooDeep),
@@ -49,20 +40,13 @@ pub fn type_event(
 }
 
 // A variant of the target's enum id: that it exists, or its value.
-pub fn variant_worth(
-    target: &[u8],
-    ttable: &[u32],
-    tbtf: Btf,
-    kind: u32,
-    id: u32,
-    found: Entry,
-) -> Worth
-    ensures { result ≡ variant_worth kind ((lent target ttable tbtf).typ id) found }
+pub fn variant_worth(target: &Types, kind: u32, id: u32, found: Entry) -> Worth
+    ensures { result ≡ variant_worth kind ((lent target.now).typ id) found }
 {
     if kind == ENUM_VARIANT_EXISTS {
         return Worth::Known(plain_value(1));
     }
-    Worth::Known(plain_value(variant_value(target, ttable, tbtf, id, found)))
+    Worth::Known(plain_value(variant_value(target, id, found)))
 }
 
 // Before the first index.
@@ -83,21 +67,14 @@ fn origin() -> Target
 }
 
 // A path that leads to a place matches there, once the local value is there; the target's need not be.
-fn place_event(
-    target: &[u8],
-    ttable: &[u32],
-    tbtf: Btf,
-    kind: u32,
-    mine: Valued,
-    place: Target,
-) -> Event
-    ensures { result ≡ field_event (lent target ttable tbtf).typ kind (reply_of mine) (Found place) }
+fn place_event(target: &Types, kind: u32, mine: Valued, place: Target) -> Event
+    ensures { result ≡ field_event (lent target.now).typ kind (reply_of mine) (Found place) }
 {
     match mine {
         Valued::Refused(r) => Event::Bad(r),
         Valued::Known(_) => {
             let last = place.last;
-            let theirs = field_value(target, ttable, tbtf, kind, last, place.bits);
+            let theirs = field_value(target, kind, last, place.bits);
             match theirs {
                 Valued::Known(v) => Event::Matched(place.bits, Worth::Known(v)),
                 Valued::Refused(_) => Event::Matched(place.bits, Worth::Unknown),
@@ -118,17 +95,13 @@ fn steps_in(count: usize) -> usize
 
 // The first `count` steps of a local path, followed in candidate id: left once a step finds nothing or is refused.
 pub fn followed(
-    local: &[u8],
-    ltable: &[u32],
-    lbtf: Btf,
-    target: &[u8],
-    ttable: &[u32],
-    tbtf: Btf,
+    local: &Types,
+    target: &Types,
     steps: [Accessor; 64],
     count: usize,
     id: u32,
 ) -> Search
-    ensures { result ≡ field_match (lent local ltable lbtf) (lent target ttable tbtf) (take count steps) id }
+    ensures { result ≡ field_match (lent local.now) (lent target.now) (take count steps) id }
 {
     if count == 0 {
         return Search::Missing;
@@ -136,7 +109,7 @@ pub fn followed(
     let mut place = origin();
     for k in 0..steps_in(count) {
         let own = steps[k];
-        let step = path_step(local, ltable, lbtf, target, ttable, tbtf, id, place, own, k);
+        let step = path_step(local, target, id, place, own, k);
         let Search::Found(s) = step else {
             return step;
         };
@@ -146,19 +119,12 @@ pub fn followed(
 }
 
 // What a candidate gives where the local path was followed.
-pub fn field_event(
-    target: &[u8],
-    ttable: &[u32],
-    tbtf: Btf,
-    kind: u32,
-    mine: Valued,
-    found: Search,
-) -> Event
-    ensures { result ≡ field_event (lent target ttable tbtf).typ kind (reply_of mine) found }
+pub fn field_event(target: &Types, kind: u32, mine: Valued, found: Search) -> Event
+    ensures { result ≡ field_event (lent target.now).typ kind (reply_of mine) found }
 {
     match found {
         Search::Missing => Event::Nothing,
         Search::Failed(r) => Event::Bad(r),
-        Search::Found(place) => place_event(target, ttable, tbtf, kind, mine, place),
+        Search::Found(place) => place_event(target, kind, mine, place),
     }
 }

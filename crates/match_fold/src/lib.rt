@@ -13,8 +13,7 @@ ghost use Rattle.access_walk.specs.Replies.{access_of};
 ghost use Rattle.match_fold.specs.Matches.{matches_of};
 
 use access_walk::{Accessed, Reach};
-use btf_accept::Btf;
-use btf_view::{count_of, entry_of, kind_of, text_of};
+use btf_view::Types;
 use match_candidate::{field_event, followed, type_event, variant_worth};
 use match_scan::{next_candidate, type_name};
 use rules::{Accessor, Event, Matches, Record, Refusal, Resolved, Worth};
@@ -66,26 +65,19 @@ fn keep(kept: Matches, id: u32, bits: u64, worth: Worth) -> Matches
 }
 
 // The matches of a record of a type kind.
-pub fn type_matches(
-    local: &[u8],
-    ltable: &[u32],
-    lbtf: Btf,
-    target: &[u8],
-    ttable: &[u32],
-    tbtf: Btf,
-    relo: Record,
-) -> Matches
-    ensures { result ≡ folded (lent local ltable lbtf) (lent target ttable tbtf) relo
-        (type_events (lent local ltable lbtf) (lent target ttable tbtf) relo.kind relo.typ) }
+pub fn type_matches(local: &Types, target: &Types, relo: Record) -> Matches
+    ensures { result ≡ folded (lent local.now) (lent target.now) relo
+        (type_events (lent local.now) (lent target.now) relo.kind relo.typ) }
 {
-    let own = kind_of(local, ltable, lbtf, relo.typ);
-    let name = type_name(local, ltable, lbtf, relo.typ);
+    let own = local.kind_of(relo.typ);
+    let name = type_name(local, relo.typ);
     let mut kept = Matches::Unmatched;
-    let mut next = next_candidate(target, ttable, tbtf, own, name, 0);
-    while next <= tbtf.last as u64 {
+    let last = target.btf.last;
+    let mut next = next_candidate(target, own, name, 0);
+    while next <= last as u64 {
         let id = next as u32;
-        next = next_candidate(target, ttable, tbtf, own, name, next + 1);
-        let event = type_event(local, ltable, lbtf, target, ttable, tbtf, relo, id);
+        next = next_candidate(target, own, name, next + 1);
+        let event = type_event(local, target, relo, id);
         match event {
             Event::Nothing => {}
             Event::Matched(bits, worth) => {
@@ -101,39 +93,30 @@ pub fn type_matches(
 
 // The matches of a record of an enum kind, on the variant `index` of the local enum `of`: a candidate is settled by its first
 // variant of the same name, but for flavours.
-pub fn enum_matches(
-    local: &[u8],
-    ltable: &[u32],
-    lbtf: Btf,
-    target: &[u8],
-    ttable: &[u32],
-    tbtf: Btf,
-    relo: Record,
-    of: u32,
-    index: u32,
-) -> Matches
-    ensures { result ≡ folded (lent local ltable lbtf) (lent target ttable tbtf) relo
-        (enum_events (lent target ttable tbtf) relo.kind ((lent local ltable lbtf).text (nth_entry ((lent local ltable lbtf).typ of) index).name)) }
+pub fn enum_matches(local: &Types, target: &Types, relo: Record, of: u32, index: u32) -> Matches
+    ensures { result ≡ folded (lent local.now) (lent target.now) relo
+        (enum_events (lent target.now) relo.kind ((lent local.now).text (nth_entry ((lent local.now).typ of) index).name)) }
 {
-    let own = kind_of(local, ltable, lbtf, relo.typ);
-    let name = type_name(local, ltable, lbtf, relo.typ);
-    let asked = entry_of(local, ltable, lbtf, of, index);
-    let variant = text_of(local, lbtf, asked.name);
+    let own = local.kind_of(relo.typ);
+    let name = type_name(local, relo.typ);
+    let asked = local.entry_of(of, index);
+    let variant = local.text_of(asked.name);
     let mut kept = Matches::Unmatched;
-    let mut next = next_candidate(target, ttable, tbtf, own, name, 0);
-    'candidates: while next <= tbtf.last as u64 {
+    let last = target.btf.last;
+    let mut next = next_candidate(target, own, name, 0);
+    'candidates: while next <= last as u64 {
         let id = next as u32;
-        next = next_candidate(target, ttable, tbtf, own, name, next + 1);
-        let Resolved::At(e) = resolve_type(target, ttable, tbtf, id) else {
+        next = next_candidate(target, own, name, next + 1);
+        let Resolved::At(e) = resolve_type(target, id) else {
             return Matches::Halted(Refusal::Unresolved);
         };
-        if !is_enum(kind_of(target, ttable, tbtf, e)) {
+        if !is_enum(target.kind_of(e)) {
             continue 'candidates;
         }
-        for k in 0..count_of(target, ttable, tbtf, e) {
-            let v = entry_of(target, ttable, tbtf, e, k);
-            if same_named(variant, target, tbtf, v.name) {
-                let worth = variant_worth(target, ttable, tbtf, relo.kind, e, v);
+        for k in 0..target.count_of(e) {
+            let v = target.entry_of(e, k);
+            if same_named(variant, target, v.name) {
+                let worth = variant_worth(target, relo.kind, e, v);
                 kept = keep(kept, id, 0, worth);
                 continue 'candidates;
             }
@@ -144,29 +127,26 @@ pub fn enum_matches(
 
 // The matches of a record of a field kind, on the path of the first `count` steps.
 pub fn field_matches(
-    local: &[u8],
-    ltable: &[u32],
-    lbtf: Btf,
-    target: &[u8],
-    ttable: &[u32],
-    tbtf: Btf,
+    local: &Types,
+    target: &Types,
     relo: Record,
     steps: [Accessor; 64],
     count: usize,
     mine: Valued,
 ) -> Matches
-    ensures { result ≡ folded (lent local ltable lbtf) (lent target ttable tbtf) relo
-        (field_events (lent local ltable lbtf) (lent target ttable tbtf) relo.kind (reply_of mine) (take count steps)) }
+    ensures { result ≡ folded (lent local.now) (lent target.now) relo
+        (field_events (lent local.now) (lent target.now) relo.kind (reply_of mine) (take count steps)) }
 {
-    let own = kind_of(local, ltable, lbtf, relo.typ);
-    let name = type_name(local, ltable, lbtf, relo.typ);
+    let own = local.kind_of(relo.typ);
+    let name = type_name(local, relo.typ);
     let mut kept = Matches::Unmatched;
-    let mut next = next_candidate(target, ttable, tbtf, own, name, 0);
-    while next <= tbtf.last as u64 {
+    let last = target.btf.last;
+    let mut next = next_candidate(target, own, name, 0);
+    while next <= last as u64 {
         let id = next as u32;
-        next = next_candidate(target, ttable, tbtf, own, name, next + 1);
-        let found = followed(local, ltable, lbtf, target, ttable, tbtf, steps, count, id);
-        let event = field_event(target, ttable, tbtf, relo.kind, mine, found);
+        next = next_candidate(target, own, name, next + 1);
+        let found = followed(local, target, steps, count, id);
+        let event = field_event(target, relo.kind, mine, found);
         match event {
             Event::Nothing => {}
             Event::Matched(bits, worth) => {
@@ -182,30 +162,22 @@ pub fn field_matches(
 
 // What is kept of the matches of a record's candidates, given what it accesses and its local value.
 pub fn match_candidates(
-    local: &[u8],
-    ltable: &[u32],
-    lbtf: Btf,
-    target: &[u8],
-    ttable: &[u32],
-    tbtf: Btf,
+    local: &Types,
+    target: &Types,
     relo: Record,
     access: Accessed,
     mine: Valued,
 ) -> Matches
-    ensures { result ≡ matches_of (lent local ltable lbtf) (lent target ttable tbtf) relo (access_of access) (reply_of mine) }
+    ensures { result ≡ matches_of (lent local.now) (lent target.now) relo (access_of access) (reply_of mine) }
 {
     let reach = access.reach;
     match reach {
         Reach::Refused(r) => Matches::Halted(r),
-        Reach::Whole => type_matches(local, ltable, lbtf, target, ttable, tbtf, relo),
-        Reach::Variant(of, index) => {
-            enum_matches(local, ltable, lbtf, target, ttable, tbtf, relo, of, index)
-        }
+        Reach::Whole => type_matches(local, target, relo),
+        Reach::Variant(of, index) => enum_matches(local, target, relo, of, index),
         Reach::Path(count, _) => {
             let steps = access.steps;
-            field_matches(
-                local, ltable, lbtf, target, ttable, tbtf, relo, steps, count, mine,
-            )
+            field_matches(local, target, relo, steps, count, mine)
         }
     }
 }

@@ -20,9 +20,8 @@ ghost use Rattle.match_search.specs.Settled.{member_count, settled, searched};
 
 use access_bits::{Bits, bits_sum};
 use access_step::member_bits;
-use btf_accept::Btf;
 use btf_kinds::Entry;
-use btf_view::{count_of, entry_of, kind_of, text_of};
+use btf_view::Types;
 use rules::{Accessor, Compat, MAX_SPEC_LEN, Refusal, Resolved, Search, Target};
 use types_chain::{is_composite, resolve_type};
 use types_field_compat::fields_are_compatible;
@@ -72,24 +71,14 @@ fn decide(fit: Compat, found: Search) -> Search
 }
 
 // The member k of the target's type id has the local member's name: it decides.
-fn settle(
-    local: &[u8],
-    ltable: &[u32],
-    lbtf: Btf,
-    target: &[u8],
-    ttable: &[u32],
-    tbtf: Btf,
-    want: Wanted,
-    id: u32,
-    k: u32,
-) -> Search
+fn settle(local: &Types, target: &Types, want: Wanted, id: u32, k: u32) -> Search
     requires { want.from.parts + 1 < 4294967296 }
-    ensures { result ≡ settled (lent local ltable lbtf) (lent target ttable tbtf) want id k }
+    ensures { result ≡ settled (lent local.now) (lent target.now) want id k }
 {
     let from = want.from;
     let own = want.member;
-    let m = entry_of(target, ttable, tbtf, id, k);
-    let fit = fields_are_compatible(local, ltable, lbtf, target, ttable, tbtf, own.typ, m.typ);
+    let m = target.entry_of(id, k);
+    let fit = fields_are_compatible(local, target, own.typ, m.typ);
     let last = Accessor {
         typ: id,
         index: k as u64,
@@ -101,63 +90,47 @@ fn settle(
         bits: from.bits,
         parts: from.parts,
     };
-    decide(
-        fit,
-        grow(
-            Search::Found(here),
-            member_bits(target, ttable, tbtf, id, m),
-        ),
-    )
+    decide(fit, grow(Search::Found(here), member_bits(target, id, m)))
 }
 
 // How many members a type has: none but in a struct or a union.
-fn members_of(bytes: &[u8], table: &[u32], btf: Btf, id: u32) -> u32
-    ensures { result ≡ member_count ((lent bytes table btf).typ id) }
+fn members_of(types: &Types, id: u32) -> u32
+    ensures { result ≡ member_count ((lent types.now).typ id) }
 {
-    if !is_composite(kind_of(bytes, table, btf, id)) {
+    if !is_composite(types.kind_of(id)) {
         return 0;
     }
-    count_of(bytes, table, btf, id)
+    types.count_of(id)
 }
 
 // The wanted member, in the target's type id: by its name, through unnamed members for as many levels as are left.
-pub fn search_member(
-    local: &[u8],
-    ltable: &[u32],
-    lbtf: Btf,
-    target: &[u8],
-    ttable: &[u32],
-    tbtf: Btf,
-    want: Wanted,
-    id: u32,
-    levels: u32,
-) -> Search
+pub fn search_member(local: &Types, target: &Types, want: Wanted, id: u32, levels: u32) -> Search
     requires { want.from.parts + levels + 2 < 4294967296 }
-    ensures { result ≡ searched (lent local ltable lbtf) (lent target ttable tbtf) want levels id }
+    ensures { result ≡ searched (lent local.now) (lent target.now) want levels id }
 {
-    let Resolved::At(i) = resolve_type(target, ttable, tbtf, id) else {
+    let Resolved::At(i) = resolve_type(target, id) else {
         return Search::Failed(Refusal::Unresolved);
     };
-    let name = text_of(local, lbtf, want.member.name);
-    for k in 0..members_of(target, ttable, tbtf, i) {
+    let name = local.text_of(want.member.name);
+    for k in 0..members_of(target, i) {
         if want.from.parts == MAX_SPEC_LEN {
             return Search::Failed(Refusal::MaximumNesting(want.candidate));
         }
-        let m = entry_of(target, ttable, tbtf, i, k);
-        let text = text_of(target, tbtf, m.name);
+        let m = target.entry_of(i, k);
+        let text = target.text_of(m.name);
         if text.len() == 0 {
             let deepest = levels == 0;
             if deepest {
                 return Search::Failed(Refusal::TooDeep);
             }
             let down = levels - 1;
-            let below = search_member(local, ltable, lbtf, target, ttable, tbtf, want, m.typ, down);
-            let up = grow(below, member_bits(target, ttable, tbtf, i, m));
+            let below = search_member(local, target, want, m.typ, down);
+            let up = grow(below, member_bits(target, i, m));
             let Search::Missing = up else {
                 return up;
             };
         } else if same_text(name, text) {
-            return settle(local, ltable, lbtf, target, ttable, tbtf, want, i, k);
+            return settle(local, target, want, i, k);
         }
     }
     Search::Missing

@@ -5,6 +5,7 @@
 ghost use Rattle.std.specs.Prelude.{◌≤◌, IfOk};
 
 use btf_accept::{Whole, accept};
+use btf_view::Types;
 use call_block::put_tail;
 use call_relocate::relocate;
 use call_report::{Reported, report};
@@ -60,9 +61,17 @@ fn put_report(
     let Whole::Accepted(tbtf) = accept(target) else {
         return 0;
     };
-    let reported = report(
-        local, ltable, lbtf, target, ttable, tbtf, section, records, said, out,
-    );
+    let local = Types {
+        bytes: local,
+        table: ltable,
+        btf: lbtf,
+    };
+    let target = Types {
+        bytes: target,
+        table: ttable,
+        btf: tbtf,
+    };
+    let reported = report(&local, &target, section, records, said, out);
     match reported {
         Reported::Written(n) => n,
         Reported::Needed(n) => n,

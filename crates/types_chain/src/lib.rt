@@ -8,13 +8,12 @@ ghost use Rattle.rules.specs.Kinds.{is_modifier, is_composite, is_enum, sized_by
 ghost use Rattle.btf_kinds.specs.Names.{ARRAY};
 ghost use Rattle.rules.specs.Types.{resolve, product, size_of, ints_agree};
 
-use btf_accept::Btf;
 use btf_kinds::{
     BTF_KIND_ARRAY, BTF_KIND_DECL_TAG, BTF_KIND_ENUM, BTF_KIND_ENUM64, BTF_KIND_FUNC_PROTO,
     BTF_KIND_PTR, BTF_KIND_RESTRICT, BTF_KIND_STRUCT, BTF_KIND_TYPE_TAG, BTF_KIND_TYPEDEF,
     BTF_KIND_UNION, BTF_KIND_VAR, has_size,
 };
-use btf_view::{extra_of, kind_of, ref_of, size_of};
+use btf_view::Types;
 use rules::{Compat, MAX_RESOLVE_DEPTH, Resolved, Sized, Why};
 
 pub const POINTER_SIZE: u32 = 8;
@@ -52,16 +51,16 @@ fn sized_by_ref(kind: u32) -> bool
 }
 
 // The type that an id names, whatever qualifies it.
-pub fn resolve_type(bytes: &[u8], table: &[u32], btf: Btf, id: u32) -> Resolved
-    ensures { result ≡ resolve (lent bytes table btf).typ id }
+pub fn resolve_type(types: &Types, id: u32) -> Resolved
+    ensures { result ≡ resolve (lent types.now).typ id }
 {
     let mut at = id;
     let mut left = MAX_RESOLVE_DEPTH;
     while left > 0 {
-        if !is_modifier(kind_of(bytes, table, btf, at)) {
+        if !is_modifier(types.kind_of(at)) {
             return Resolved::At(at);
         }
-        at = ref_of(bytes, table, btf, at);
+        at = types.ref_of(at);
         left -= 1;
     }
     Resolved::Endless
@@ -80,36 +79,36 @@ fn product_of(id: u32, n: u32, size: u32) -> Sized
 }
 
 // How many elements count behind a type: an array's own, whatever counted before it.
-fn elements_of(bytes: &[u8], table: &[u32], btf: Btf, id: u32, kind: u32, n: u32) -> u32
-    ensures { result ≡ cond (eqb kind ARRAY) ((lent bytes table btf).typ id).extra n }
+fn elements_of(types: &Types, id: u32, kind: u32, n: u32) -> u32
+    ensures { result ≡ cond (eqb kind ARRAY) ((lent types.now).typ id).extra n }
 {
     if kind == BTF_KIND_ARRAY {
-        extra_of(bytes, table, btf, id)
+        types.extra_of(id)
     } else {
         n
     }
 }
 
 // How many bytes a type has; or why it has no size, and the id where that showed.
-pub fn type_size(bytes: &[u8], table: &[u32], btf: Btf, id: u32) -> Sized
-    ensures { result ≡ size_of (lent bytes table btf).typ id }
+pub fn type_size(types: &Types, id: u32) -> Sized
+    ensures { result ≡ size_of (lent types.now).typ id }
 {
     let mut at = id;
     let mut n: u32 = 1;
     let mut left = MAX_RESOLVE_DEPTH;
     while left > 0 {
-        let kind = kind_of(bytes, table, btf, at);
+        let kind = types.kind_of(at);
         if kind == BTF_KIND_PTR {
             return product_of(at, n, POINTER_SIZE);
         }
         if has_size(kind) {
-            return product_of(at, n, size_of(bytes, table, btf, at));
+            return product_of(at, n, types.size_of(at));
         }
         if !sized_by_ref(kind) {
             return Sized::Unsized(Why::KindWithoutSize, at);
         }
-        n = elements_of(bytes, table, btf, at, kind, n);
-        at = ref_of(bytes, table, btf, at);
+        n = elements_of(types, at, kind, n);
+        at = types.ref_of(at);
         left -= 1;
     }
     Sized::Unsized(Why::ChainTooLong, at)
@@ -130,22 +129,13 @@ fn int_offset(extra: u32) -> u32
 }
 
 // Two INTs: compatible where neither has an offset.
-pub fn ints_agree(
-    local: &[u8],
-    ltable: &[u32],
-    lbtf: Btf,
-    target: &[u8],
-    ttable: &[u32],
-    tbtf: Btf,
-    i: u32,
-    j: u32,
-) -> Compat
-    ensures { result ≡ ints_agree ((lent local ltable lbtf).typ i) ((lent target ttable tbtf).typ j) }
+pub fn ints_agree(local: &Types, target: &Types, i: u32, j: u32) -> Compat
+    ensures { result ≡ ints_agree ((lent local.now).typ i) ((lent target.now).typ j) }
 {
-    if int_offset(extra_of(local, ltable, lbtf, i)) != 0 {
+    if int_offset(local.extra_of(i)) != 0 {
         return Compat::Different;
     }
-    if int_offset(extra_of(target, ttable, tbtf, j)) != 0 {
+    if int_offset(target.extra_of(j)) != 0 {
         return Compat::Different;
     }
     Compat::Compatible

@@ -9,9 +9,8 @@ ghost use Rattle.btf_kinds.specs.Names.{ARRAY, FWD};
 ghost use Rattle.rules.specs.Types.{meet_fields, fields_compatible};
 ghost use Rattle.types_field_compat.specs.Names.{no_further, names_agree};
 
-use btf_accept::Btf;
 use btf_kinds::{BTF_KIND_ARRAY, BTF_KIND_FLOAT, BTF_KIND_FWD, BTF_KIND_INT, BTF_KIND_PTR};
-use btf_view::{kind_of, name_of, ref_of, text_of};
+use btf_view::Types;
 use rules::{Compat, MAX_RESOLVE_DEPTH, Resolved};
 use types_chain::{ints_agree, is_composite, is_enum, kinds_alike, resolve_type};
 use types_names::same_named;
@@ -32,20 +31,11 @@ fn goes_by_name(kind: u32) -> bool
 }
 
 // Two types' names: compatible where they are the same but for flavours.
-fn names_agree(
-    local: &[u8],
-    ltable: &[u32],
-    lbtf: Btf,
-    target: &[u8],
-    ttable: &[u32],
-    tbtf: Btf,
-    i: u32,
-    j: u32,
-) -> Compat
-    ensures { result ≡ names_agree (lent local ltable lbtf) (lent target ttable tbtf) i j }
+fn names_agree(local: &Types, target: &Types, i: u32, j: u32) -> Compat
+    ensures { result ≡ names_agree (lent local.now) (lent target.now) i j }
 {
-    let l = text_of(local, lbtf, name_of(local, ltable, lbtf, i));
-    if same_named(l, target, tbtf, name_of(target, ttable, tbtf, j)) {
+    let l = local.text_of(local.name_of(i));
+    if same_named(l, target, target.name_of(j)) {
         Compat::Compatible
     } else {
         Compat::Different
@@ -53,38 +43,19 @@ fn names_agree(
 }
 
 // Two arrays.
-fn are_arrays(
-    local: &[u8],
-    ltable: &[u32],
-    lbtf: Btf,
-    target: &[u8],
-    ttable: &[u32],
-    tbtf: Btf,
-    i: u32,
-    j: u32,
-) -> bool
-    ensures { result ≡ (eqb ((lent local ltable lbtf).typ i).kind ARRAY && eqb ((lent target ttable tbtf).typ j).kind ARRAY) }
+fn are_arrays(local: &Types, target: &Types, i: u32, j: u32) -> bool
+    ensures { result ≡ (eqb ((lent local.now).typ i).kind ARRAY && eqb ((lent target.now).typ j).kind ARRAY) }
 {
-    kind_of(local, ltable, lbtf, i) == BTF_KIND_ARRAY
-        && kind_of(target, ttable, tbtf, j) == BTF_KIND_ARRAY
+    local.kind_of(i) == BTF_KIND_ARRAY && target.kind_of(j) == BTF_KIND_ARRAY
 }
 
 // Two fields' types without modifiers that are not both arrays.
-fn fields_meet(
-    local: &[u8],
-    ltable: &[u32],
-    lbtf: Btf,
-    target: &[u8],
-    ttable: &[u32],
-    tbtf: Btf,
-    i: u32,
-    j: u32,
-) -> Compat
-    ensures { result ≡ meet_fields no_further (lent local ltable lbtf).text (lent target ttable tbtf).text ((lent local ltable lbtf).typ i)
-        ((lent target ttable tbtf).typ j) }
+fn fields_meet(local: &Types, target: &Types, i: u32, j: u32) -> Compat
+    ensures { result ≡ meet_fields no_further (lent local.now).text (lent target.now).text ((lent local.now).typ i)
+        ((lent target.now).typ j) }
 {
-    let kind = kind_of(local, ltable, lbtf, i);
-    let other = kind_of(target, ttable, tbtf, j);
+    let kind = local.kind_of(i);
+    let other = target.kind_of(j);
     if both_composite(kind, other) {
         return Compat::Compatible;
     }
@@ -92,10 +63,10 @@ fn fields_meet(
         return Compat::Different;
     }
     if goes_by_name(kind) {
-        return names_agree(local, ltable, lbtf, target, ttable, tbtf, i, j);
+        return names_agree(local, target, i, j);
     }
     if kind == BTF_KIND_INT {
-        return ints_agree(local, ltable, lbtf, target, ttable, tbtf, i, j);
+        return ints_agree(local, target, i, j);
     }
     if kind == BTF_KIND_FLOAT || kind == BTF_KIND_PTR {
         return Compat::Compatible;
@@ -104,33 +75,24 @@ fn fields_meet(
 }
 
 // Whether two members may have these types.
-pub fn fields_are_compatible(
-    local: &[u8],
-    ltable: &[u32],
-    lbtf: Btf,
-    target: &[u8],
-    ttable: &[u32],
-    tbtf: Btf,
-    a: u32,
-    b: u32,
-) -> Compat
-    ensures { result ≡ fields_compatible (lent local ltable lbtf) (lent target ttable tbtf) a b }
+pub fn fields_are_compatible(local: &Types, target: &Types, a: u32, b: u32) -> Compat
+    ensures { result ≡ fields_compatible (lent local.now) (lent target.now) a b }
 {
     let mut u = a;
     let mut v = b;
     let mut left = MAX_RESOLVE_DEPTH;
     while left > 0 {
-        let Resolved::At(i) = resolve_type(local, ltable, lbtf, u) else {
+        let Resolved::At(i) = resolve_type(local, u) else {
             return Compat::Broken;
         };
-        let Resolved::At(j) = resolve_type(target, ttable, tbtf, v) else {
+        let Resolved::At(j) = resolve_type(target, v) else {
             return Compat::Broken;
         };
-        if !are_arrays(local, ltable, lbtf, target, ttable, tbtf, i, j) {
-            return fields_meet(local, ltable, lbtf, target, ttable, tbtf, i, j);
+        if !are_arrays(local, target, i, j) {
+            return fields_meet(local, target, i, j);
         }
-        u = ref_of(local, ltable, lbtf, i);
-        v = ref_of(target, ttable, tbtf, j);
+        u = local.ref_of(i);
+        v = target.ref_of(j);
         left -= 1;
     }
     Compat::Broken

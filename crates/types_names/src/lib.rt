@@ -2,12 +2,11 @@
 #![tactic(auto)]
 
 ghost use Rattle.std.specs.Prelude.{◌≡◌, get_or, drop};
-ghost use Rattle.btf_accept.specs.Sections.{strings_in};
 ghost use Rattle.btf_view.specs.Text.{text_at};
+ghost use Rattle.btf_view.specs.Lent.{lent};
 ghost use Rattle.rules.specs.Types.{is_empty, same_text, flavourless, same_flavourless};
 
-use btf_accept::Btf;
-use word_read::part;
+use btf_view::Types;
 
 const UNDERSCORE: u8 = 95;
 
@@ -82,9 +81,8 @@ fn same_in(name: &[u8], strings: &[u8], from: usize) -> bool
 }
 
 // Whether a name and the one at an offset of the strings are the same but for flavours.
-pub fn same_named(name: &[u8], bytes: &[u8], btf: Btf, offset: u32) -> bool
-    ensures { result ≡ same_flavourless name.now (text_at (strings_in bytes.now btf) offset) }
+pub fn same_named(name: &[u8], types: &Types, offset: u32) -> bool
+    ensures { result ≡ same_flavourless name.now ((lent types.now).text offset) }
 {
-    let z = btf.strings;
-    same_in(name, part(bytes, z.start, z.size), offset as usize)
+    same_in(name, types.strings(), offset as usize)
 }

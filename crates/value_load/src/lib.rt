@@ -9,9 +9,8 @@ ghost use Rattle.rules.specs.Types.{own_size};
 ghost use Rattle.rules.specs.Value.{bitfield, signedness, plain_load};
 ghost use Rattle.value_load.specs.Replies.{load_of, Aligned};
 
-use btf_accept::Btf;
 use btf_kinds::{BTF_KIND_INT, BTF_KIND_PTR, has_size};
-use btf_view::{extra_of, flag_of, kind_of, size_of};
+use btf_view::Types;
 use rules::Load;
 use types_chain::{POINTER_SIZE, is_enum};
 
@@ -67,35 +66,31 @@ fn bitfield_load(bits: u64, width: u32, size: u32) -> Loaded
 }
 
 // A bitfield of a type begins with the type's own size.
-pub fn bitfield_of(bytes: &[u8], table: &[u32], btf: Btf, id: u32, bits: u64, width: u32) -> Loaded
-    ensures { load_of result ≡ bitfield bits width (own_size ((lent bytes table btf).typ id)) }
+pub fn bitfield_of(types: &Types, id: u32, bits: u64, width: u32) -> Loaded
+    ensures { load_of result ≡ bitfield bits width (own_size ((lent types.now).typ id)) }
 {
-    let kind = kind_of(bytes, table, btf, id);
+    let kind = types.kind_of(id);
     if kind == BTF_KIND_PTR {
         return bitfield_load(bits, width, POINTER_SIZE);
     }
     if has_size(kind) {
-        return bitfield_load(bits, width, size_of(bytes, table, btf, id));
+        return bitfield_load(bits, width, types.size_of(id));
     }
     Loaded::Nowhere
 }
 
 // 1 for a signed INT or enum.
-pub fn signedness_of(bytes: &[u8], table: &[u32], btf: Btf, id: u32) -> u64
-    ensures { result ≡ signedness ((lent bytes table btf).typ id) }
+pub fn signedness_of(types: &Types, id: u32) -> u64
+    ensures { result ≡ signedness ((lent types.now).typ id) }
 {
-    let kind = kind_of(bytes, table, btf, id);
+    let kind = types.kind_of(id);
     if kind == BTF_KIND_INT {
-        return (extra_of(bytes, table, btf, id) / INT_SIGNED % 2) as u64;
+        return (types.extra_of(id) / INT_SIGNED % 2) as u64;
     }
     if !is_enum(kind) {
         return 0;
     }
-    if flag_of(bytes, table, btf, id) == 1 {
-        1
-    } else {
-        0
-    }
+    if types.flag_of(id) == 1 { 1 } else { 0 }
 }
 
 // How a plain field of `size` bytes is loaded.

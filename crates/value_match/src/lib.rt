@@ -10,9 +10,8 @@ ghost use Rattle.rules.specs.Types.{size_of, sized};
 ghost use Rattle.rules.specs.Value.{plain, element_value, field_value, variant_value, type_value};
 ghost use Rattle.value_member.specs.Replies.{reply_of};
 
-use btf_accept::Btf;
 use btf_kinds::{BTF_KIND_ENUM, Entry};
-use btf_view::{flag_of, kind_of};
+use btf_view::Types;
 use rules::{
     Accessor, FIELD_BYTE_OFFSET, FIELD_BYTE_SIZE, FIELD_EXISTS, Refusal, Sized, TYPE_EXISTS,
     TYPE_ID_TARGET,
@@ -22,10 +21,10 @@ use value_member::{Valued, named_value, offset_value, plainly};
 use word_put::sign_extend;
 
 // A type's size as a value.
-fn size_value(bytes: &[u8], table: &[u32], btf: Btf, id: u32) -> Valued
-    ensures { reply_of result ≡ sized (size_of (lent bytes table btf).typ id) (λ n. ok (plain n)) }
+fn size_value(types: &Types, id: u32) -> Valued
+    ensures { reply_of result ≡ sized (size_of (lent types.now).typ id) (λ n. ok (plain n)) }
 {
-    let z = type_size(bytes, table, btf, id);
+    let z = type_size(types, id);
     let Sized::Bytes(size) = z else {
         return Valued::Refused(Refusal::Unresolved);
     };
@@ -33,16 +32,16 @@ fn size_value(bytes: &[u8], table: &[u32], btf: Btf, id: u32) -> Valued
 }
 
 // An element of a type: it has an offset and a size alone.
-fn element_value(bytes: &[u8], table: &[u32], btf: Btf, kind: u32, id: u32, bits: u64) -> Valued
-    ensures { reply_of result ≡ element_value (lent bytes table btf).typ kind bits id }
+fn element_value(types: &Types, kind: u32, id: u32, bits: u64) -> Valued
+    ensures { reply_of result ≡ element_value (lent types.now).typ kind bits id }
 {
     if kind == FIELD_BYTE_SIZE {
-        return size_value(bytes, table, btf, id);
+        return size_value(types, id);
     }
     if kind != FIELD_BYTE_OFFSET {
         return Valued::Refused(Refusal::WrongKind);
     }
-    let z = type_size(bytes, table, btf, id);
+    let z = type_size(types, id);
     let Sized::Bytes(size) = z else {
         return Valued::Refused(Refusal::Unresolved);
     };
@@ -50,28 +49,21 @@ fn element_value(bytes: &[u8], table: &[u32], btf: Btf, kind: u32, id: u32, bits
 }
 
 // The value of a field, by the last accessor of its path and its bit offset.
-pub fn field_value(
-    bytes: &[u8],
-    table: &[u32],
-    btf: Btf,
-    kind: u32,
-    accessor: Accessor,
-    bits: u64,
-) -> Valued
-    ensures { reply_of result ≡ field_value (lent bytes table btf).typ kind accessor bits }
+pub fn field_value(types: &Types, kind: u32, accessor: Accessor, bits: u64) -> Valued
+    ensures { reply_of result ≡ field_value (lent types.now).typ kind accessor bits }
 {
     if kind == FIELD_EXISTS {
         return plainly(1);
     }
     if accessor.named {
-        return named_value(bytes, table, btf, kind, accessor.typ, accessor.index, bits);
+        return named_value(types, kind, accessor.typ, accessor.index, bits);
     }
-    element_value(bytes, table, btf, kind, accessor.typ, bits)
+    element_value(types, kind, accessor.typ, bits)
 }
 
 // The value of a type as a whole.
-pub fn type_value(bytes: &[u8], table: &[u32], btf: Btf, kind: u32, id: u32) -> Valued
-    ensures { reply_of result ≡ type_value (lent bytes table btf).typ kind id }
+pub fn type_value(types: &Types, kind: u32, id: u32) -> Valued
+    ensures { reply_of result ≡ type_value (lent types.now).typ kind id }
 {
     if kind == TYPE_ID_TARGET {
         return plainly(id as u64);
@@ -80,7 +72,7 @@ pub fn type_value(bytes: &[u8], table: &[u32], btf: Btf, kind: u32, id: u32) -> 
     if existence {
         return plainly(1);
     }
-    size_value(bytes, table, btf, id)
+    size_value(types, id)
 }
 
 // A variant's value as it stands: 32 bits of an ENUM, 64 of an ENUM64.
@@ -91,13 +83,13 @@ fn raw_value(variant: Entry) -> u64
 }
 
 // The value of a variant of an enum: of a signed ENUM it is an i32, widened with its sign.
-pub fn variant_value(bytes: &[u8], table: &[u32], btf: Btf, id: u32, variant: Entry) -> u64
-    ensures { result ≡ variant_value ((lent bytes table btf).typ id) variant }
+pub fn variant_value(types: &Types, id: u32, variant: Entry) -> u64
+    ensures { result ≡ variant_value ((lent types.now).typ id) variant }
 {
-    if kind_of(bytes, table, btf, id) != BTF_KIND_ENUM {
+    if types.kind_of(id) != BTF_KIND_ENUM {
         return raw_value(variant);
     }
-    let unsigned = flag_of(bytes, table, btf, id) != 1;
+    let unsigned = types.flag_of(id) != 1;
     if unsigned {
         return raw_value(variant);
     }

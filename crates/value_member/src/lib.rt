@@ -9,9 +9,8 @@ ghost use Rattle.rules.specs.Fields.{bitfield_size, nth_entry};
 ghost use Rattle.rules.specs.Value.{plain, end_from, shift, load_value, member_value};
 ghost use Rattle.value_member.specs.Replies.{reply_of, offset_of, plain_member, bitfield_member, named_value};
 
-use btf_accept::Btf;
 use btf_kinds::Entry;
-use btf_view::{count_of, entry_of, flag_of};
+use btf_view::Types;
 use rules::{
     FIELD_BYTE_OFFSET, FIELD_BYTE_SIZE, FIELD_LSHIFT, FIELD_SIGNED, Load, Refusal, Resolved, Sized,
     Typing, Value,
@@ -72,18 +71,9 @@ fn left_shift(bits: u64, load: Load) -> Valued
 }
 
 // The value of a field of a type, from how it is loaded; `offset` answers the kind that asks for the offset.
-fn load_value(
-    bytes: &[u8],
-    table: &[u32],
-    btf: Btf,
-    kind: u32,
-    id: u32,
-    bits: u64,
-    load: Load,
-    offset: Value,
-) -> Valued
+fn load_value(types: &Types, kind: u32, id: u32, bits: u64, load: Load, offset: Value) -> Valued
     requires { 8 * load.offset ≤ bits }
-    ensures { reply_of result ≡ load_value kind bits ((lent bytes table btf).typ id) load offset }
+    ensures { reply_of result ≡ load_value kind bits ((lent types.now).typ id) load offset }
 {
     if kind == FIELD_BYTE_OFFSET {
         return Valued::Known(offset);
@@ -92,7 +82,7 @@ fn load_value(
         return plainly(load.size);
     }
     if kind == FIELD_SIGNED {
-        return plainly(signedness_of(bytes, table, btf, id));
+        return plainly(signedness_of(types, id));
     }
     if kind == FIELD_LSHIFT {
         return left_shift(bits, load);
@@ -112,61 +102,45 @@ pub fn offset_value(bits: u64, size: u32, id: u32) -> Value
 }
 
 // A member of a type that is no bitfield.
-fn plain_member(bytes: &[u8], table: &[u32], btf: Btf, kind: u32, id: u32, bits: u64) -> Valued
-    ensures { reply_of result ≡ plain_member (lent bytes table btf).typ kind bits id }
+fn plain_member(types: &Types, kind: u32, id: u32, bits: u64) -> Valued
+    ensures { reply_of result ≡ plain_member (lent types.now).typ kind bits id }
 {
-    let z = type_size(bytes, table, btf, id);
+    let z = type_size(types, id);
     let Sized::Bytes(size) = z else {
         return Valued::Refused(Refusal::Unresolved);
     };
     let load = plain_load(bits, size);
     let offset = offset_value(bits, size, id);
-    load_value(bytes, table, btf, kind, id, bits, load, offset)
+    load_value(types, kind, id, bits, load, offset)
 }
 
 // A bitfield member of a type; its offset is not compared.
-fn bitfield_member(
-    bytes: &[u8],
-    table: &[u32],
-    btf: Btf,
-    kind: u32,
-    id: u32,
-    bits: u64,
-    width: u32,
-) -> Valued
-    ensures { reply_of result ≡ bitfield_member (lent bytes table btf).typ kind bits width id }
+fn bitfield_member(types: &Types, kind: u32, id: u32, bits: u64, width: u32) -> Valued
+    ensures { reply_of result ≡ bitfield_member (lent types.now).typ kind bits width id }
 {
-    let l = bitfield_of(bytes, table, btf, id, bits, width);
+    let l = bitfield_of(types, id, bits, width);
     let Loaded::By(load) = l else {
         return Valued::Refused(Refusal::Unresolved);
     };
     let offset = plain_value(load.offset);
-    load_value(bytes, table, btf, kind, id, bits, load, offset)
+    load_value(types, kind, id, bits, load, offset)
 }
 
 // A member of a type, `width` bits wide; 0 where it is no bitfield.
-fn member_value(
-    bytes: &[u8],
-    table: &[u32],
-    btf: Btf,
-    kind: u32,
-    id: u32,
-    bits: u64,
-    width: u32,
-) -> Valued
-    ensures { reply_of result ≡ member_value (lent bytes table btf).typ kind bits width id }
+fn member_value(types: &Types, kind: u32, id: u32, bits: u64, width: u32) -> Valued
+    ensures { reply_of result ≡ member_value (lent types.now).typ kind bits width id }
 {
     if width == 0 {
-        return plain_member(bytes, table, btf, kind, id, bits);
+        return plain_member(types, kind, id, bits);
     }
-    bitfield_member(bytes, table, btf, kind, id, bits, width)
+    bitfield_member(types, kind, id, bits, width)
 }
 
 // The member `index` of a type; zeros where there is none.
-pub fn member_of(bytes: &[u8], table: &[u32], btf: Btf, id: u32, index: u64) -> Entry
-    ensures { result ≡ nth_entry ((lent bytes table btf).typ id) index }
+pub fn member_of(types: &Types, id: u32, index: u64) -> Entry
+    ensures { result ≡ nth_entry ((lent types.now).typ id) index }
 {
-    let count = count_of(bytes, table, btf, id);
+    let count = types.count_of(id);
     if index >= count as u64 {
         return Entry {
             name: 0,
@@ -175,14 +149,14 @@ pub fn member_of(bytes: &[u8], table: &[u32], btf: Btf, id: u32, index: u64) -> 
             high: 0,
         };
     }
-    entry_of(bytes, table, btf, id, index as u32)
+    types.entry_of(id, index as u32)
 }
 
 // How many bits wide a member of a type is; 0 where it is no bitfield.
-fn bitfield_size(bytes: &[u8], table: &[u32], btf: Btf, id: u32, member: Entry) -> u32
-    ensures { result ≡ bitfield_size ((lent bytes table btf).typ id) member }
+fn bitfield_size(types: &Types, id: u32, member: Entry) -> u32
+    ensures { result ≡ bitfield_size ((lent types.now).typ id) member }
 {
-    if flag_of(bytes, table, btf, id) == 1 {
+    if types.flag_of(id) == 1 {
         member.low / 16777216
     } else {
         0
@@ -190,22 +164,14 @@ fn bitfield_size(bytes: &[u8], table: &[u32], btf: Btf, id: u32, member: Entry) 
 }
 
 // The member `index` of a composite type.
-pub fn named_value(
-    bytes: &[u8],
-    table: &[u32],
-    btf: Btf,
-    kind: u32,
-    id: u32,
-    index: u64,
-    bits: u64,
-) -> Valued
-    ensures { reply_of result ≡ named_value (lent bytes table btf).typ kind id index bits }
+pub fn named_value(types: &Types, kind: u32, id: u32, index: u64, bits: u64) -> Valued
+    ensures { reply_of result ≡ named_value (lent types.now).typ kind id index bits }
 {
-    let member = member_of(bytes, table, btf, id, index);
-    let width = bitfield_size(bytes, table, btf, id, member);
-    let r = resolve_type(bytes, table, btf, member.typ);
+    let member = member_of(types, id, index);
+    let width = bitfield_size(types, id, member);
+    let r = resolve_type(types, member.typ);
     let Resolved::At(at) = r else {
         return Valued::Refused(Refusal::Unresolved);
     };
-    member_value(bytes, table, btf, kind, at, bits, width)
+    member_value(types, kind, at, bits, width)
 }

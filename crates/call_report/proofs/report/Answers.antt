@@ -12,5 +12,5 @@ returns-then-too_long c =
 pub returns : goal.returns
 returns c =
     let w = c.put_said-needed.ensures in
-    let k = enough _ _ (untouched _ w) w.place (omega (arith, c.well_formed.1.1.1.1.1.1.1.1.1.0)) c.if-too_long.false c.put_said.ensures in
+    let k = enough _ _ (untouched _ w) w.place (omega (arith, c.well_formed.1.1.1.1.1.0)) c.if-too_long.false c.put_said.ensures in
     record { answer = k.0; buffer = k.1 }

@@ -3,8 +3,8 @@ use Prim.Native.Nat.{ℕ}
 use mathlib.Core.List.{List}
 use mathlib.Core.Path.{ap, ◌∙◌}
 use lib.Seq.{sets}
-use Rattle.btf_accept.specs.declared.Btf.{Btf}
-use Rattle.btf_view.specs.View.{tab_view}
+use Rattle.btf_view.specs.Lent.{lent}
+use Rattle.btf_view.specs.View.{View, tab_view}
 use Rattle.rules.specs.declared.Said.{Said}
 use Rattle.rules.specs.Call.{Effect, records_in, relocate_read}
 use Rattle.rules.specs.Report.{report_said}
@@ -20,18 +20,15 @@ use Rattle.leamugi.proofs.leamugi_relocate_reported.Goals as goal
 pub returns : goal.returns
 returns c =
     let a = c.args in
-    let x₀ = c.btf_from-l.result in
-    let y₀ = c.btf_from-t.result in
+    let y₀ = lent c.read_before-t.result in
     let s₀ = c.relocate_read-s.result in
-    let x₁ = btf_of a.lread.now in
-    let y₁ = btf_of a.tread.now in
-    let run : Btf → Btf → Effect = λ x y. relocate_read (tab_view a.local.now a.ltable.now x) (tab_view a.target.now a.ttable.now y) a.insns.now a.section
-    a.records.now in
-    let text : Btf → Btf → Said → List ℕ = λ x y s. report_said (tab_view a.local.now a.ltable.now x) (tab_view a.target.now a.ttable.now y) a.section
-    (records_in a.records.now) s in
-    let e = c.relocate_read-s.ensures ∙ ap (λ (x : Btf). run x y₀) c.btf_from-l.ensures ∙ ap (run x₁) c.btf_from-t.ensures in
+    let x₁ = tab_view a.local.now a.ltable.now (btf_of a.lread.now) in
+    let y₁ = tab_view a.target.now a.ttable.now (btf_of a.tread.now) in
+    let run : View → View → Effect = λ x y. relocate_read x y a.insns.now a.section a.records.now in
+    let text : View → View → Said → List ℕ = λ x y s. report_said x y a.section (records_in a.records.now) s in
+    let e = c.relocate_read-s.ensures ∙ ap (λ (x : View). run x y₀) c.read_before-l.ensures ∙ ap (λ (y : View). run x₁ y) c.read_before-t.ensures in
     let o = laid_out e c.ending_numbers-n.ensures in
-    let w = ap (λ (x : Btf). text x y₀ s₀) c.btf_from-l.ensures ∙ ap (λ (y : Btf). text x₁ y s₀) c.btf_from-t.ensures ∙ ap (λ (f : Effect). text x₁ y₁ f.said) e in
+    let w = ap (λ (x : View). text x y₀ s₀) c.read_before-l.ensures ∙ ap (λ (y : View). text x₁ y s₀) c.read_before-t.ensures ∙ ap (λ (f : Effect). text x₁ y₁ f.said) e in
     let r = c.report.ensures.answer ∙ ap (λ (u : List ℕ). reported u a.out.now) w in
     let long = c.report_length-long.ensures ∙ ap (λ (u : Reported). length_of u) r in
     let m = c.with_report.ensures ∙ ap (λ (k : Numbers). reported_numbers k c.report_length-long.result) o.0

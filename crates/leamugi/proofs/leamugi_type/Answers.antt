@@ -1,8 +1,7 @@
 -- `leamugi::leamugi_type` meets its contract.
 use mathlib.Core.Path.{ap, ◌∙◌}
 use lib.Seq.{sets}
-use Rattle.btf_accept.specs.declared.Btf.{Btf}
-use Rattle.btf_view.specs.View.{tab_view}
+use Rattle.btf_view.specs.View.{View}
 use Rattle.leamugi_numbers.specs.declared.Numbers.{Numbers}
 use Rattle.leamugi_numbers.specs.Numbers.{five, type_numbers}
 use Rattle.leamugi.proofs.leamugi_type.Goals as goal
@@ -10,5 +9,5 @@ use Rattle.leamugi.proofs.leamugi_type.Goals as goal
 pub returns : goal.returns
 returns c =
     let a = c.args in
-    let e = c.type_numbers-found.ensures ∙ ap (λ (b : Btf). type_numbers (tab_view a.btf.now a.table.now b) a.id) c.btf_from.ensures in
+    let e = c.type_numbers-found.ensures ∙ ap (λ (v : View). type_numbers v a.id) c.read_before.ensures in
     record { number = ap (λ (n : Numbers). n.number) e; said = c.put_five.ensures ∙ ap (λ (n : Numbers). sets a.said.now 0 (five n)) e }

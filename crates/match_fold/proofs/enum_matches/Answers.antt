@@ -9,7 +9,7 @@ use Rattle.match_fold.proofs.Enums.{enum-endless, enum-other, scanning-first, sc
 use Rattle.match_fold.proofs.enum_matches.Goals as goal
 
 pub candidates-init : goal.candidates-init
-candidates-init c = folding-first _ _ _ _ _ (omega (arith, c.well_formed.1.1.1.1.1.0)) refl c.next_candidate-next.ensures
+candidates-init c = folding-first _ _ _ _ _ (omega arith) refl c.next_candidate-next.ensures
 
 pub returns-in_default : goal.returns-in_default
 returns-in_default c =

@@ -1,6 +1,6 @@
 -- The loop of `match_fold::enum_matches`.
 use Prim.Native.Nat.{suc, ◌-◌}
-use Rattle.btf_view.specs.View.{tab_view}
+use Rattle.btf_view.specs.Lent.{lent}
 use Rattle.rules.specs.declared.Matches.TheVariants.{Unmatched}
 use Rattle.rules.specs.Record.{over}
 use Rattle.match_candidate.specs.Events.{enum_events}
@@ -10,15 +10,15 @@ use Rattle.match_fold.proofs.Enums.{Scanning}
 use Rattle.match_fold.proofs.enum_matches.Given as goal
 
 abbrev pub invariant-loop-k : goal.invariant-loop-k
-invariant-loop-k l = Scanning (tab_view l.target l.ttable l.tbtf) l.own l.name l.tbtf.last
-    (over (among (tab_view l.target l.ttable l.tbtf) l.own l.name (enum_events (tab_view l.target l.ttable l.tbtf) l.relo.kind l.variant)) Unmatched 0 (suc l.tbtf.last)) l.kept l.id l.relo.kind l.variant l.e l.k-end l.k
+invariant-loop-k l = Scanning (lent l.target) l.own l.name l.target.btf.last
+    (over (among (lent l.target) l.own l.name (enum_events (lent l.target) l.relo.kind l.variant)) Unmatched 0 (suc l.target.btf.last)) l.kept l.id l.relo.kind l.variant l.e l.k-end l.k
 
 abbrev pub decreases-loop-k : goal.decreases-loop-k
 decreases-loop-k l = l.k-end - l.k
 
 abbrev pub invariant-candidates : goal.invariant-candidates
-invariant-candidates l = Folding (tab_view l.target l.ttable l.tbtf) l.own l.name (enum_events (tab_view l.target l.ttable l.tbtf) l.relo.kind l.variant) l.tbtf.last
-    (over (among (tab_view l.target l.ttable l.tbtf) l.own l.name (enum_events (tab_view l.target l.ttable l.tbtf) l.relo.kind l.variant)) Unmatched 0 (suc l.tbtf.last)) l.kept l.next
+invariant-candidates l = Folding (lent l.target) l.own l.name (enum_events (lent l.target) l.relo.kind l.variant) l.target.btf.last
+    (over (among (lent l.target) l.own l.name (enum_events (lent l.target) l.relo.kind l.variant)) Unmatched 0 (suc l.target.btf.last)) l.kept l.next
 
 abbrev pub decreases-candidates : goal.decreases-candidates
-decreases-candidates l = suc l.tbtf.last - l.next
+decreases-candidates l = suc l.target.btf.last - l.next

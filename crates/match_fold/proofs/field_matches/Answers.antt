@@ -7,7 +7,7 @@ use Rattle.match_fold.proofs.field_matches.Goals as goal
 
 pub loop-next-init : goal.loop-next-init
 loop-next-init c =
-    folding-first _ _ _ _ _ (omega (arith, c.well_formed.1.1.1.1.1.0)) (own-fold _ _ c.args.relo c.kind_of-own.ensures c.type_name-name.ensures _)
+    folding-first _ _ _ _ _ (omega arith) (own-fold _ _ c.args.relo c.kind_of-own.ensures c.type_name-name.ensures _)
     c.next_candidate-next.ensures
 
 pub loop-next-smaller-in-Nothing : goal.loop-next-smaller-in-Nothing

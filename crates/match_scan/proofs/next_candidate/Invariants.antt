@@ -1,12 +1,12 @@
 -- The loop of `match_scan::next_candidate`.
 use Prim.Native.Nat.{suc, ◌-◌}
 use mathlib.Core.Path.{◌≡◌}
-use Rattle.btf_view.specs.View.{tab_view}
+use Rattle.btf_view.specs.Lent.{lent}
 use Rattle.match_scan.specs.Candidates.{first_from}
 use Rattle.match_scan.proofs.next_candidate.Given as goal
 
 abbrev pub invariant-loop-id : goal.invariant-loop-id
-invariant-loop-id l = first_from (tab_view l.target l.ttable l.tbtf) l.kind l.name l.id (suc l.tbtf.last - l.id) ≡ first_from (tab_view l.target l.ttable l.tbtf) l.kind l.name l.from (suc l.tbtf.last - l.from)
+invariant-loop-id l = first_from (lent l.target) l.kind l.name l.id (suc l.target.btf.last - l.id) ≡ first_from (lent l.target) l.kind l.name l.from (suc l.target.btf.last - l.from)
 
 abbrev pub decreases-loop-id : goal.decreases-loop-id
-decreases-loop-id l = suc l.tbtf.last - l.id
+decreases-loop-id l = suc l.target.btf.last - l.id

@@ -1,5 +1,5 @@
 -- What falls where `match_search::search_member` calls itself, and what holds at each turn of its loop.
-use Rattle.btf_view.specs.View.{tab_view}
+use Rattle.btf_view.specs.Lent.{lent}
 use Rattle.match_search.proofs.Searching.{Searching}
 use Rattle.match_search.proofs.+search_member.Given as goal
 
@@ -8,4 +8,4 @@ decreases-search_member l = l.levels
 
 abbrev pub invariant-loop-k : goal.invariant-loop-k
 invariant-loop-k l =
-    Searching (tab_view l.local l.ltable l.lbtf) (tab_view l.target l.ttable l.tbtf) l.want l.levels l.id l.i l.name l.k-end l.k
+    Searching (lent l.local) (lent l.target) l.want l.levels l.id l.i l.name l.k-end l.k

@@ -9,4 +9,4 @@ use Rattle.types_names.proofs.same_named.Goals as goal
 pub returns : goal.returns
 returns c =
     let a = c.args in
-    c.same_in.ensures ∙ ap (λ (z : List ℕ). same_flavourless a.name.now (text_at z a.offset)) c.part.ensures
+    c.same_in.ensures ∙ ap (λ (z : List ℕ). same_flavourless a.name.now (text_at z a.offset)) c.strings.ensures

@@ -1,7 +1,7 @@
 -- `value_member::bitfield_member` meets its contract.
 use mathlib.Core.Path.{sym, ap, ◌∙◌}
 use Rattle.rules.specs.Value.{bitfield_value}
-use Rattle.btf_view.specs.View.{tab_view}
+use Rattle.btf_view.specs.Lent.{lent}
 use Rattle.rules.specs.Types.{own_size}
 use Rattle.value_load.specs.Replies.{load_of}
 use Rattle.value_load.proofs.Loads.{begins}
@@ -14,7 +14,7 @@ returns-in_default c = sym (rw (← c.bitfield_of-l.ensures, c.in_default.is))
 pub load_value-requires : goal.load_value-requires
 load_value-requires c =
     let a = c.args in
-    begins a.bits a.width (own_size ((tab_view a.bytes.now a.table.now a.btf).typ a.id))
+    begins a.bits a.width (own_size ((lent a.types.now).typ a.id))
     (sym (ap load_of c.in-By.is) ∙ c.bitfield_of-l.ensures)
 
 pub returns : goal.returns

@@ -1,7 +1,7 @@
 -- `btf_view::place_of` meets its contract.
 use native.Mathlib.Omega.{arith}
 use Rattle.btf_view.proofs.PlaceLaws.{place-zero, place-high, place_short, place_is}
-use Rattle.btf_view.proofs.place_of.Goals as goal
+use Rattle.btf_view.proofs.Types.place_of.Goals as goal
 
 pub returns-then-void : goal.returns-then-void
 returns-then-void c = (place-zero _ _ _ _ c.if-void.true, omega arith)

@@ -3,7 +3,7 @@ use native.Mathlib.Omega.{arith}
 use mathlib.Core.Path.{ap}
 use Rattle.btf_kinds.specs.declared.Tail.{Tail}
 use Rattle.btf_view.proofs.PlaceLaws.{entry-none, entry-is, reach}
-use Rattle.btf_view.proofs.entry_of.Goals as goal
+use Rattle.btf_view.proofs.Types.entry_of.Goals as goal
 
 pub returns-then-k-count_at : goal.returns-then-k-count_at
 returns-then-k-count_at c = entry-none _ _ _ _ _ c.place_of-at.ensures.0 _ c.count_at.ensures c.if-k-count_at.true

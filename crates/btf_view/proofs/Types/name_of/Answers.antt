@@ -2,7 +2,7 @@
 use mathlib.Core.Path.{◌∙◌, ap}
 use Rattle.btf_kinds.specs.Types.{Ty}
 use Rattle.btf_view.proofs.PlaceLaws.{at_place}
-use Rattle.btf_view.proofs.name_of.Goals as goal
+use Rattle.btf_view.proofs.Types.name_of.Goals as goal
 
 pub returns : goal.returns
 returns c = c.name_at.ensures ∙ ap (λ (ty : Ty). ty.name) (at_place _ _ _ _ c.place_of.ensures.0)
