@@ -1,4 +1,2 @@
 pub mod Digits
-pub mod Colons
 pub mod Parts
-pub mod Counting

@@ -1,19 +1,16 @@
 -- The laws of pieces written one after the other.
 -- Assumes nothing.
 use mathlib.Core.Path.{◌≡◌, refl, sym, ap, ◌∙◌}
-use mathlib.Core.Bool.{Bool, true, false, cond}
+use mathlib.Core.Bool.{Bool, true, false}
 use mathlib.Core.List.{List, [], ◌∷◌, ◌++◌}
-use Prim.Native.Nat.{ℕ, zero, suc, ◌+◌, ◌/◌, ◌%◌, ◌^◌, ◌≤◌, ◌<◌, min}
-use native.Mathlib.Nat.{add-zero, pow-suc}
+use Prim.Native.Nat.{ℕ, suc, ◌+◌, ◌≤◌, ◌<◌, min}
+use native.Mathlib.Nat.{add-zero}
 use native.Mathlib.Numerals.{add-one}
 use native.Mathlib.Omega.{arith}
 use lib.ListN.{length, get_or, take, set, length-append}
-use lib.Seq.{sets, set_out, length-sets, take_all, take-suc}
+use lib.Seq.{sets, set_out, length-sets, take-suc}
 use lib.Dec.{ltb}
-use borrow.Author.Tests.{ltb-true, ltb-false, lt-ltb, le-ltb, ne_eqb}
-use Rattle.rules.specs.declared.Answer.{Answer}
-use Rattle.rules.specs.Ascii.{ascii}
-use Rattle.rules.specs.Report.{digit_shown, in_decimal_up_to, in_decimal, number_of, insn_shown}
+use borrow.Author.Tests.{ltb-true, ltb-false}
 use Rattle.call_lines.specs.Pieces.{far, Wrote}
 
 -- Past the end nothing is written.
@@ -66,47 +63,3 @@ module _ {xs ys us : List ℕ} {at m : ℕ} where
 module _ {xs ys : List ℕ} {at m : ℕ} (piece : List ℕ) (i : ℕ) where
   pub more : {zs : List ℕ} {n : ℕ} → length xs ≤ far → i < length piece → Wrote xs at (take i piece) ys m → Wrote ys m (get_or piece i 0 ∷ []) zs n → Wrote xs at (take (i + 1) piece) zs n
   more h k u v = rw (add-one i, take-suc piece i 0 k) (join h u v)
-
-  -- All of it
-  pub whole : length piece ≤ i → Wrote xs at (take i piece) ys m → Wrote xs at piece ys m
-  whole h u = rw (take_all i piece h) at u
-
--- Decimal: digits that are allowed and not needed change nothing.
-spare : (f n : ℕ) → n < 10 ^ suc f → in_decimal_up_to (suc (suc f)) n ≡ in_decimal_up_to (suc f) n
-unfolding in_decimal_up_to
-spare zero n h = rw (lt-ltb n 10 h)
-spare (suc f) n h =
-    let small : n / 10 < 10 ^ suc f = omega (arith, pow-suc 10 (suc f)) in
-    ap (λ (l : List ℕ). cond (ltb n 10) (digit_shown n) (l ++ digit_shown (n % 10))) (spare f (n / 10) small)
-
--- One digit, and the last digit behind the others
-pub decimal-one : (n : ℕ) → n < 10 → digit_shown n ≡ in_decimal n
-unfolding in_decimal in_decimal_up_to
-decimal-one n h = sym (rw (lt-ltb n 10 h))
-
-pub decimal-more : (n : ℕ) → 10 ≤ n → n < 2 ^ 64 → in_decimal (n / 10) ++ digit_shown (n % 10) ≡ in_decimal n
-unfolding in_decimal in_decimal_up_to
-decimal-more n h k = sym (rw (le-ltb n 10 h, spare 18 (n / 10) (omega arith)))
-
--- A number written: its one digit, or the digit behind
-module _ {xs ys : List ℕ} {at m : ℕ} where
-  pub last_digit : (n : ℕ) → n < 10 → Wrote xs at (digit_shown n) ys m → Wrote xs at (in_decimal n) ys m
-  last_digit n h u = rw (decimal-one n h) at u
-
-  pub next_digit : {zs : List ℕ} {k : ℕ} (n : ℕ) → length xs ≤ far → 10 ≤ n → n < 2 ^ 64 → Wrote xs at (in_decimal (n / 10)) ys m → Wrote ys m (digit_shown (n % 10)) zs k
-      → Wrote xs at (in_decimal n) zs k
-  next_digit n f h k u v = rw (decimal-more n h k) at (join f u v)
-
--- The instruction that a record shows: none at refusals 4 and 5
-module _ (i : ℕ) (a : Answer) where
-  pub hides_at_4 : number_of a ≡ 4 → ascii "none" ≡ insn_shown i a
-  unfolding insn_shown
-  hides_at_4 h = sym (rw h)
-
-  pub hides_at_5 : number_of a ≡ 5 → ascii "none" ≡ insn_shown i a
-  unfolding insn_shown
-  hides_at_5 h = sym (rw h)
-
-  pub shows : (number_of a ≡ 4 → ⊥) → (number_of a ≡ 5 → ⊥) → in_decimal i ≡ insn_shown i a
-  unfolding insn_shown
-  shows f g = sym (rw (ne_eqb (number_of a) 4 f, ne_eqb (number_of a) 5 g))

@@ -1,5 +1,6 @@
 // Section 9's report, piece by piece into a lent buffer. Every writer answers for any place: it writes what fits and returns
-// the next place, so over an empty buffer it counts.
+// the next place, so over an empty buffer it counts. No `Display` and no `write!`: they write to an `impl fmt::Write`, here a
+// struct that holds buffer and place, and each contract of one that holds a `&mut` says besides that it still holds the same.
 #![tactic(auto)]
 
 ghost use Rattle.std.specs.Prelude.{◌≡◌, [], ◌∷◌, ◌++◌, ◌+◌, min};
@@ -8,6 +9,7 @@ ghost use Rattle.rules.specs.Ascii.{ascii};
 ghost use Rattle.rules.specs.Report.{in_decimal, line, number_of, insn_shown, value_shown, lines};
 ghost use Rattle.call_lines.specs.Pieces.{far, Wrote};
 
+use itoa::Buffer;
 use rules::{Answer, Refusal};
 use word_put::put_u8;
 
@@ -18,37 +20,32 @@ const FAR: u64 = 9223372036854775808;
 pub fn near(at: u64) -> u64
     ensures { result ≡ min at far }
 {
-    if at < FAR { at } else { FAR }
+    at.min(FAR)
 }
 
 pub fn put_byte(out: &mut [u8], at: u64, byte: u8) -> u64
     ensures { Wrote out.old at (byte ∷ []) out.new result }
 {
     put_u8(out, at as usize, byte);
-    if at < FAR { at + 1 } else { FAR }
+    near(at.saturating_add(1))
 }
 
 pub fn put_piece(out: &mut [u8], at: u64, piece: &[u8]) -> u64
     ensures { Wrote out.old at piece.now out.new result }
 {
     let mut next = near(at);
-    let mut i = 0;
-    while i < piece.len() {
-        next = put_byte(out, next, piece[i]);
-        i += 1;
+    for byte in piece {
+        next = put_byte(out, next, *byte);
     }
     next
 }
 
-// A number in decimal: its last digit behind the others.
+// A number in decimal.
+#[tactic(auto, using(crate::proofs::Decimal::same))]
 pub fn put_decimal(out: &mut [u8], at: u64, n: u64) -> u64
     ensures { Wrote out.old at (in_decimal n) out.new result }
 {
-    if n < 10 {
-        return put_byte(out, at, (48 + n) as u8);
-    }
-    let next = put_decimal(out, at, n / 10);
-    put_byte(out, next, (48 + n % 10) as u8)
+    put_piece(out, at, Buffer::new().format(n).as_bytes())
 }
 
 // A line that shows a number.
@@ -87,28 +84,26 @@ fn answer_number(answer: Answer) -> u32
     ensures { result ≡ number_of answer }
 {
     match answer {
-        Answer::Applied(_) => 0,
-        Answer::Poisoned => 0,
+        Answer::Applied(_) | Answer::Poisoned => 0,
         Answer::Refused(refusal) => refusal_number(refusal),
     }
 }
 
 // Refusals 4 and 5 show no instruction.
+#[tactic(auto, using(crate::proofs::Laws::called), unfolding(rules::specs::Report::insn_shown))]
 fn put_insn(out: &mut [u8], at: u64, index: u64, answer: Answer) -> u64
     ensures { Wrote out.old at (line "insn=" (insn_shown index answer)) out.new result }
 {
-    let number = answer_number(answer);
-    if number == 4 {
-        return put_piece(out, at, b"insn=none\n");
+    match answer {
+        Answer::Refused(Refusal::KindTooBig(_) | Refusal::NotInFunction) => {
+            put_piece(out, at, b"insn=none\n")
+        }
+        _ => put_line(out, at, b"insn=", index),
     }
-    let outside = number == 5;
-    if outside {
-        return put_piece(out, at, b"insn=none\n");
-    }
-    put_line(out, at, b"insn=", index)
 }
 
 // Poison and refusal show `poison` and `none`.
+#[tactic(auto, unfolding(rules::specs::Report::value_shown))]
 fn put_value(out: &mut [u8], at: u64, answer: Answer) -> u64
     ensures { Wrote out.old at (line "value=" (value_shown answer)) out.new result }
 {

@@ -25,8 +25,7 @@ pub fn run_records(
         ≡ run_of (lent local.now) (lent target.now) section insns.old records.now }
 {
     let n = records.len() / 16;
-    let mut k: usize = 0;
-    while k < n {
+    for k in 0..n {
         let a = apply_record(local, target, insns, section, record_at(records, k));
         if let Answer::Refused(why) = a {
             return Said {
@@ -34,7 +33,6 @@ pub fn run_records(
                 applied: k as u64,
             };
         }
-        k += 1;
     }
     Said {
         ending: Ending::Done,
@@ -43,33 +41,26 @@ pub fn run_records(
 }
 
 // Whole instructions, no more than carried; a section offset of whole instructions; whole records.
+#[tactic(auto, unfolding(rules::specs::Call::shaped))]
 pub fn shape_fine(insns: &[u8], section: u64, records: &[u8]) -> bool
     ensures { result ≡ shaped insns.now section records.now }
 {
-    if insns.len() % 8 != 0 {
-        return false;
-    }
-    if section % 8 != 0 {
-        return false;
-    }
-    if records.len() % 16 != 0 {
-        return false;
-    }
-    insns.len() / 8 <= MAX_INSNS
+    insns.len() % 8 == 0
+        && section % 8 == 0
+        && records.len() % 16 == 0
+        && insns.len() / 8 <= MAX_INSNS
 }
 
 // A call that ended before its first record.
 pub fn unrun(ending: Ending) -> Said
     ensures { result ≡ ended ending 0 }
 {
-    Said {
-        ending: ending,
-        applied: 0,
-    }
+    Said { ending, applied: 0 }
 }
 
 // Applies the records to a function, between two BTFs that were read before. Answers for any bytes, any tables and any
 // places: what stands at an id is what the tables say.
+#[tactic(auto, unfolding(rules::specs::Call::relocate_read))]
 pub fn relocate_read(
     local: &Types,
     target: &Types,

@@ -18,5 +18,5 @@ unread_of w TooBig = OverLimit w
 unread_of w (TooShort n) = TableShort w n
 
 -- The target read, and the records applied
-unfoldable pub on_target : View → List ℕ → ℕ → List ℕ → ℕ → List ℕ → Effect
+abbrev pub on_target : View → List ℕ → ℕ → List ℕ → ℕ → List ℕ → Effect
 on_target L t troom xs section rs = read_then Target xs (decode t troom) (λ tb. run_of L (doc_view t tb) section xs rs)

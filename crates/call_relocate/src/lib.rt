@@ -26,6 +26,7 @@ fn unread(which: Which, reading: Reading) -> Ending
 }
 
 // The target read, and the records applied, where the local BTF was read before.
+#[tactic(auto, using(btf_view::proofs::Agree::views_agree))]
 fn relocate_on(
     local: &Types,
     target: &[u8],
@@ -39,19 +40,20 @@ fn relocate_on(
     ensures table { ttable.new ≡ tabled target.now ttable.old }
 {
     let t = read(target, ttable);
-    if let Reading::Read(btf) = t {
-        let target = Types {
-            bytes: target,
-            table: ttable,
-            btf,
-        };
-        return run_records(local, &target, insns, section, records);
-    }
-    unrun(unread(Which::Target, t))
+    let Reading::Read(btf) = t else {
+        return unrun(unread(Which::Target, t));
+    };
+    let target = Types {
+        bytes: target,
+        table: ttable,
+        btf,
+    };
+    run_records(local, &target, insns, section, records)
 }
 
 // The whole call: the bytes' shape, the local BTF, the target BTF, then the records in order up to the first refusal. Both
 // tables are lent for where the types begin.
+#[tactic(auto, using(btf_view::proofs::Agree::views_agree), unfolding(rules::specs::Call::relocate_of, rules::specs::Call::local_table, rules::specs::Call::target_table))]
 pub fn relocate(
     local: &[u8],
     ltable: &mut [u32],
@@ -72,13 +74,13 @@ pub fn relocate(
         return unrun(Ending::Misshapen);
     }
     let l = read(local, ltable);
-    if let Reading::Read(btf) = l {
-        let local = Types {
-            bytes: local,
-            table: ltable,
-            btf,
-        };
-        return relocate_on(&local, target, ttable, insns, section, records);
-    }
-    unrun(unread(Which::Local, l))
+    let Reading::Read(btf) = l else {
+        return unrun(unread(Which::Local, l));
+    };
+    let local = Types {
+        bytes: local,
+        table: ltable,
+        btf,
+    };
+    relocate_on(&local, target, ttable, insns, section, records)
 }

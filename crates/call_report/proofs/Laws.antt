@@ -8,7 +8,7 @@ use native.Mathlib.Nat.{zero-add, sub-zero}
 use native.Mathlib.Omega.{arith}
 use lib.Dec.{leb}
 use lib.ListN.{length, drop}
-use lib.Seq.{sets, sets-eq}
+use lib.Seq.{sets-eq}
 use borrow.Author.Tests.{le-leb, lt-leb, leb-true, leb-false}
 use Rattle.btf_view.specs.View.{View}
 use Rattle.rules.specs.declared.Record.{Record}
@@ -21,8 +21,8 @@ use Rattle.rules.specs.Record.{index_of, relocated}
 use Rattle.rules.specs.Call.{record_at, records_from}
 use Rattle.rules.specs.Report.{lines, report_from, answered, answer_at_end, again}
 use Rattle.call_lines.specs.Pieces.{far, Wrote}
-use Rattle.call_lines.proofs.Laws.{join, called, sets_out}
-use Rattle.call_report.specs.declared.Reported.TheVariants.{Written, Needed}
+use Rattle.call_lines.proofs.Laws.{join, called}
+use Rattle.std.specs.Prelude.{Ok, Err}
 use Rattle.call_report.specs.Reported.{lines_again, lines_last, reported, holding}
 
 -- What is left to report from record k on, of m records of which n were applied
@@ -95,43 +95,35 @@ no-answers section n [] = refl
 no-answers section n (r ∷ rs) = refl
 
 module _ (section : ℕ) (bytes : List ℕ) (k : ℕ) where
-  pub last-past : (e : Ending) → length bytes / 16 ≤ k → [] ≡ lines_last section bytes k e
+  pub last_past : (e : Ending) → length bytes / 16 ≤ k → [] ≡ lines_last section bytes k e
   unfolding lines_last records_from report_from
-  last-past e h = let z : length bytes / 16 - k ≡ 0 = omega arith in sym (rw z)
+  last_past e h = let z : length bytes / 16 - k ≡ 0 = omega arith in sym (rw z)
 
   pub last_none : (e : Ending) → answer_at_end e ≡ [] → [] ≡ lines_last section bytes k e
   unfolding lines_last
   last_none e h = sym (rw h (no-answers section k _))
 
-  pub last-stopped : {r : Record} {i : ℕ} (j : ℕ) (w : Refusal) → r ≡ record_at bytes k → i ≡ index_of section r → k < length bytes / 16 → lines k i (Refused w) ≡ lines_last section bytes k (Stopped j w)
+  pub last_stopped : {r : Record} {i : ℕ} (j : ℕ) (w : Refusal) → r ≡ record_at bytes k → i ≡ index_of section r → k < length bytes / 16 → lines k i (Refused w) ≡ lines_last section bytes k (Stopped j w)
   unfolding lines_last records_from report_from
-  last-stopped j w p q lt =
+  last_stopped j w p q lt =
       let z : length bytes / 16 - k ≡ suc (length bytes / 16 - (k + 1)) = omega arith in
       let l = lines k (index_of section (record_at bytes k)) (Refused w) in
       rw (q, p) (sym (rw z (ap (λ (t : List ℕ). l ++ t) (no-answers section (k + 1) (records_from bytes (k + 1) (length bytes / 16 - (k + 1)))) ∙ append-nil l)))
 
--- A count, over nothing, leaves what it stands before.
-pub untouched : {text ys : List ℕ} {n : ℕ} (xs : List ℕ) → Wrote [] 0 text ys n → ys ++ xs ≡ xs
-untouched {text} xs w = ap (λ (l : List ℕ). l ++ xs) (w.bytes ∙ sets_out [] 0 text (omega arith))
-
 -- What the count tells: it does not fit, or it does and is written.
-module _ (text xs : List ℕ) {zs : List ℕ} {n : ℕ} (same : zs ≡ xs) (c : n ≡ min (0 + length text) far) where
-  pub short : length zs < n → (Needed n ≡ reported text xs) × (zs ≡ holding text xs)
+module _ (text xs : List ℕ) {n : ℕ} (c : n ≡ min (0 + length text) far) where
+  pub short : length xs < n → (Err (record { needed = n }) ≡ reported text xs) × (xs ≡ holding text xs)
   unfolding reported holding
   short h =
-      let long : length zs ≡ length xs = ap length same in
       let b : leb (length text) (length xs) ≡ false = lt-leb (length text) (length xs) (omega arith) in
       let e : n ≡ min (length text) far = omega arith in
-      (sym (rw (b, e)), same ∙ sym (rw b))
+      (sym (rw (b, e)), sym (rw b))
 
-  pub enough : {ys : List ℕ} {m : ℕ} → length xs < far → n ≤ length zs → Wrote zs 0 text ys m → (Written m ≡ reported text xs) × (ys ≡ holding text xs)
+  pub enough : {ys : List ℕ} {m : ℕ} → length xs < far → n ≤ length xs → Wrote xs 0 text ys m → (Ok m ≡ reported text xs) × (ys ≡ holding text xs)
   unfolding reported holding
   enough {ys} {m} l h w =
-      let long : length zs ≡ length xs = ap length same in
       let f : length text ≤ length xs = omega arith in
       let b : leb (length text) (length xs) ≡ true = le-leb (length text) (length xs) f in
       let e : m ≡ length text = w.place ∙ omega arith in
-      let p : 0 + length text ≤ length xs = omega arith in (
-        sym (rw (b, e)),
-        w.bytes ∙ ap (λ (l : List ℕ). sets l 0 text) same ∙ sets-eq text xs 0 p ∙ ap (λ (k : ℕ). text ++ drop k xs) (zero-add (length text)) ∙ sym (rw b),
-      )
+      let p : 0 + length text ≤ length xs = omega arith in
+      (sym (rw (b, e)), w.bytes ∙ sets-eq text xs 0 p ∙ ap (λ (k : ℕ). text ++ drop k xs) (zero-add (length text)) ∙ sym (rw b))

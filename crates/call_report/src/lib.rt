@@ -11,15 +11,14 @@ ghost use Rattle.call_report.specs.Reported.{lines_again, lines_last, reported, 
 
 use btf_view::Types;
 use call_compute::{record_at, record_write};
-use call_conclude::{Relocated, shown_answer};
+use call_conclude::shown_answer;
 use call_lines::{near, put_record};
 use rules::{Answer, Ending, Record, Said};
 
-// How many bytes were written, or nothing and how many are needed.
+// Nothing was written: so many bytes are needed.
 #[derive(Clone, Copy)]
-pub enum Reported {
-    Written(u64),
-    Needed(u64),
+pub struct TooShort {
+    pub needed: u64,
 }
 
 // What a record was answered, by what it writes.
@@ -27,8 +26,8 @@ fn answer_again(local: &Types, target: &Types, relo: Record) -> Answer
     ensures { result ≡ answered (rule.relocated (lent local.now) (lent target.now) relo) }
 {
     match record_write(local, target, relo) {
-        Relocated::Writes(write) => shown_answer(write),
-        Relocated::Refused(refusal) => Answer::Refused(refusal),
+        Ok(write) => shown_answer(write),
+        Err(refusal) => Answer::Refused(refusal),
     }
 }
 
@@ -36,15 +35,11 @@ fn answer_again(local: &Types, target: &Types, relo: Record) -> Answer
 fn index_of(section: u64, offset: u32) -> u64
     ensures { result ≡ (offset - section) / 8 }
 {
-    let place = offset as u64;
-    if section <= place {
-        (place - section) / 8
-    } else {
-        0
-    }
+    (offset as u64).saturating_sub(section) / 8
 }
 
 // The lines of record k, which was applied.
+#[tactic(auto, using(crate::proofs::Laws::applied, call_lines::proofs::Laws::called))]
 fn put_applied(
     out: &mut [u8],
     at: u64,
@@ -64,6 +59,7 @@ fn put_applied(
 }
 
 // The lines of record k, where the call ended there.
+#[tactic(auto, using(crate::proofs::Laws::last_past, crate::proofs::Laws::last_none, crate::proofs::Laws::last_stopped, call_lines::proofs::Laws::called))]
 fn put_last(out: &mut [u8], at: u64, section: u64, records: &[u8], k: u64, ending: Ending) -> u64
     ensures { Wrote out.old at (lines_last section records.now k ending) out.new result }
 {
@@ -84,12 +80,6 @@ fn put_last(out: &mut [u8], at: u64, section: u64, records: &[u8], k: u64, endin
     )
 }
 
-fn least(a: u64, b: u64) -> u64
-    ensures { result ≡ min a b }
-{
-    if a < b { a } else { b }
-}
-
 // The whole report, as far as it fits.
 fn put_said(
     out: &mut [u8],
@@ -103,16 +93,12 @@ fn put_said(
         (records_in records.now) said) out.new result }
 {
     let count = (records.len() / 16) as u64;
-    let applied = said.applied;
-    let ending = said.ending;
-    let answered = least(count, applied);
+    let answered = count.min(said.applied);
     let mut at = 0;
-    let mut k = 0;
-    while k < answered {
+    for k in 0..answered {
         at = put_applied(out, at, local, target, section, records, k);
-        k += 1;
     }
-    put_last(out, at, section, records, k, ending)
+    put_last(out, at, section, records, answered, said.ending)
 }
 
 // The report into a lent buffer; nothing is written where it does not fit.
@@ -123,16 +109,16 @@ pub fn report(
     records: &[u8],
     said: Said,
     out: &mut [u8],
-) -> Reported
+) -> Result<u64, TooShort>
     ensures answer { result ≡ reported (report_said (lent local.now) (lent target.now) section (records_in records.now) said)
         out.old }
     ensures buffer { out.new ≡ holding
         (report_said (lent local.now) (lent target.now) section (records_in records.now) said) out.old }
 {
-    let needed = put_said(&mut out[..0], local, target, section, records, said);
+    let needed = put_said(&mut [], local, target, section, records, said);
     let too_long = needed > out.len() as u64;
     if too_long {
-        return Reported::Needed(needed);
+        return Err(TooShort { needed });
     }
-    Reported::Written(put_said(out, local, target, section, records, said))
+    Ok(put_said(out, local, target, section, records, said))
 }

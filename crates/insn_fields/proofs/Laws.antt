@@ -4,7 +4,7 @@ use mathlib.Core.Path.{◌≡◌, sym, ap, ◌∙◌}
 use mathlib.Core.Bool.{true, false}
 use mathlib.Core.List.{List, ◌++◌}
 use mathlib.Core.Logic.{⊎_elim}
-use Prim.Native.Nat.{ℕ, ◌+◌, ◌-◌, ◌/◌, ◌≤◌, ◌<◌}
+use Prim.Native.Nat.{ℕ, ◌+◌, ◌/◌, ◌≤◌, ◌<◌}
 use native.Mathlib.Omega.{arith}
 use lib.IntN.{ℤ}
 use lib.ListN.{length, get_or, take, drop, set}
@@ -15,14 +15,9 @@ use lib.Dec.{leb}
 use borrow.Author.Tests.{eq-eqb, ne_eqb, lt-ltb, le-ltb, le-leb, lt-leb, ltb-true}
 use Rattle.word_read.specs.Num.{little}
 use Rattle.word_read.specs.Put.{put_at}
-use Rattle.word_read.proofs.Parts.{all_left, back}
 use Rattle.btf_kinds.proofs.Keys.{split}
 use Rattle.rules.specs.declared.Refusal.TheVariants.{NoSuccessor}
 use Rattle.rules.specs.Apply.{done, stopped, has_slot, code, poisoned, also_next, poison}
-
--- A part from a on is lent, and ys comes back: what was done to the part is done to the end of the whole.
-pub lent : (f : List ℕ → List ℕ) (a : ℕ) (xs ys : List ℕ) → ys ≡ f (take (length xs - a) (drop a xs)) → take a xs ++ (ys ++ drop (length xs - a) (drop a xs)) ≡ take a xs ++ f (drop a xs)
-lent f a xs ys e = back xs ys a ∙ ap (λ (l : List ℕ). take a xs ++ l) (e ∙ ap f (all_left xs a))
 
 -- A call hands a signed number on as its bits; those of the number that v is read as are v.
 pub signed : (w : Width) (v : ℕ) (z : ℤ) → Fits w v → z ≡ to_z w v → of_z w (to_z w (of_z w z)) ≡ v
@@ -44,15 +39,15 @@ sixteen xs =
 pub room : (xs : List ℕ) → has_slot xs 1 ≡ true → 8 ≤ length xs
 room xs h = omega (arith, ltb-true 1 (length xs / 8) h)
 
--- The successor is missing, or is lent as the part from byte 8 on and comes back as zs.
+-- The successor is missing, or is split off and left as zs.
 module _ (change : List ℕ → List ℕ) (xs : List ℕ) (i : ℕ) where
   pub missing : has_slot xs 1 ≡ false → stopped (NoSuccessor (i + 1)) xs ≡ also_next change xs i
   unfolding also_next
   missing h = rw h
 
-  pub changed : has_slot xs 1 ≡ true → (zs : List ℕ) → zs ≡ change (take (length xs - 8) (drop 8 xs)) → done (take 8 xs ++ (zs ++ drop (length xs - 8) (drop 8 xs))) ≡ also_next change xs i
+  pub changed : has_slot xs 1 ≡ true → {front zs : List ℕ} → front ≡ take 8 xs → zs ≡ change (drop 8 xs) → done (front ++ zs) ≡ also_next change xs i
   unfolding also_next
-  changed h zs e = rw h (ap done (lent change 8 xs zs e))
+  changed h e f = rw (h, e, f)
 
 -- Poison: ys has the first instruction poisoned, b is the code that it had.
 module _ (b : ℕ) (xs ys : List ℕ) (i : ℕ) (e : b ≡ get_or xs 0 0) (p : ys ≡ poisoned xs) where

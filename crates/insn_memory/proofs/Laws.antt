@@ -2,7 +2,6 @@
 -- Assumes nothing.
 use mathlib.Core.Path.{◌≡◌}
 use mathlib.Core.List.{List}
-use mathlib.Core.Option.{none}
 use Prim.Native.Nat.{ℕ, ◌≤◌, ◌<◌}
 use native.Mathlib.Omega.{arith}
 use mir.Syntax.{w16}
@@ -14,9 +13,10 @@ use Rattle.word_read.specs.Put.{put_at}
 use Rattle.rules.specs.declared.Refusal.TheVariants.{BadInstruction}
 use Rattle.rules.specs.declared.Resize.{Resize}
 use Rattle.rules.specs.Apply.{stopped, with_off, patch_memory, size_bits, resize}
+use Rattle.std.specs.Prelude.{None}
 
 -- Any other size has no bits.
-pub no_bits : (s : ℕ) → (s ≡ 1 → ⊥) → (s ≡ 2 → ⊥) → (s ≡ 4 → ⊥) → (s ≡ 8 → ⊥) → size_bits s ≡ none
+pub no_bits : (s : ℕ) → (s ≡ 1 → ⊥) → (s ≡ 2 → ⊥) → (s ≡ 4 → ⊥) → (s ≡ 8 → ⊥) → size_bits s ≡ None
 unfolding size_bits
 no_bits s a b c d = rw (ne_eqb s 1 a, ne_eqb s 2 b, ne_eqb s 4 c, ne_eqb s 8 d)
 

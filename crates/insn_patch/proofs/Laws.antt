@@ -3,20 +3,19 @@
 use mathlib.Core.Path.{◌≡◌, refl, sym, ap, ap₂, ◌∙◌}
 use mathlib.Core.List.{List, [], ◌∷◌, ◌++◌}
 use mathlib.Core.Logic.{⊎_elim, inl, inr}
-use Prim.Native.Nat.{ℕ, ◌-◌, ◌*◌, ◌/◌, ◌%◌, ◌≤◌, ◌<◌}
+use Prim.Native.Nat.{ℕ, ◌*◌, ◌/◌, ◌%◌, ◌≤◌, ◌<◌}
 use native.Mathlib.Omega.{arith}
 use lib.ListN.{length, get_or, take, drop, drop_of_length-le}
 use lib.Seq.{take_all}
 use types.Run.{OneOf}
 use borrow.Author.Tests.{eq-eqb, ne_eqb, lt-ltb, le-ltb}
-use Rattle.word_read.proofs.Parts.{all_left, back}
 use Rattle.btf_kinds.proofs.Keys.{at_key, in_range, split}
+use Rattle.std.specs.Prelude.{Result, Ok, Err}
+use Rattle.rules.specs.declared.Refusal.{Refusal}
 use Rattle.rules.specs.declared.Refusal.TheVariants.{BadInstruction}
 use Rattle.rules.specs.declared.Resize.{Resize}
 use Rattle.rules.specs.Apply.{Patch, done, stopped, code, class, with_imm, patch_alu, patch_memory, patch_wide, patch_class, low, source_register, patch_front, behind, patch}
 use Rattle.rules.specs.declared.Write.{Write}
-use Rattle.insn_fields.specs.declared.Patched.{Patched}
-use Rattle.insn_fields.specs.declared.Patched.TheVariants.{Done, Stopped}
 use Rattle.insn_fields.specs.Patched.{patch_of}
 use Rattle.insn_patch.specs.Start.{start_of}
 
@@ -81,14 +80,14 @@ module _ (b : ℕ) (xs : List ℕ) (n : ℕ) (e : b ≡ get_or xs 1 0) where
   unfolding patch_alu source_register
   immediate h p = rw (← e, eq-eqb (b / 16) 0 h, p)
 
--- The whole patch: the part from `at` on is lent, and ys comes back with the answer p.
-pub patched : (xs : List ℕ) (i : ℕ) (w : Write) {at : ℕ} → at ≡ start_of (length xs) i → (p : Patched) (ys : List ℕ)
-    → patch_of p ys ≡ patch_front (take (length xs - at) (drop at xs)) i w → patch_of p (take at xs ++ (ys ++ drop (length xs - at) (drop at xs))) ≡ patch xs i w
+-- The whole patch: the part from `at` on is split off, and left as ys with the answer p.
+pub patched : (xs : List ℕ) (i : ℕ) (w : Write) {at : ℕ} {front back : List ℕ} → at ≡ start_of (length xs) i → front ≡ take at xs → back ≡ drop at xs
+    → (p : Result (Unit {0}) Refusal) (ys : List ℕ) → patch_of p ys ≡ patch_front back i w → patch_of p (front ++ ys) ≡ patch xs i w
 unfolding patch
-patched xs i w {at} s p ys e =
-    ap (patch_of p) (back xs ys at) ∙ put p ∙ ap (behind (take at xs)) (e ∙ ap (λ (l : List ℕ). patch_front l i w) (all_left xs at))
-    ∙ ap₂ (λ (a l : List ℕ). behind a (patch_front l i w)) (ap (λ (k : ℕ). take k xs) s ∙ (starts xs i).0) (ap (λ (k : ℕ). drop k xs) s ∙ (starts xs i).1)
+patched xs i w {front = front} s f b p ys e =
+    put p ∙ ap (behind front) e
+    ∙ ap₂ (λ (a l : List ℕ). behind a (patch_front l i w)) (f ∙ ap (λ (k : ℕ). take k xs) s ∙ (starts xs i).0) (b ∙ ap (λ (k : ℕ). drop k xs) s ∙ (starts xs i).1)
   where
-    put : (p : Patched) → patch_of p (take at xs ++ ys) ≡ behind (take at xs) (patch_of p ys)
-    put Done = refl
-    put (Stopped r) = refl
+    put : (p : Result (Unit {0}) Refusal) → patch_of p (front ++ ys) ≡ behind front (patch_of p ys)
+    put (Ok u) = refl
+    put (Err r) = refl

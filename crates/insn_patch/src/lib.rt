@@ -9,17 +9,18 @@ ghost use Rattle.insn_fields.specs.Patched.{patch_of};
 ghost use Rattle.insn_patch.specs.Start.{start_of};
 
 use insn_fields::{
-    BPF_ALU, BPF_ALU64, BPF_LD, BPF_LDX, BPF_ST, BPF_STX, CODE, INSN_SIZE, Patched, REGISTERS,
-    bad_instruction, has_successor, no_successor, poison, put_imm,
+    BPF_ALU, BPF_ALU64, BPF_LD, BPF_LDX, BPF_ST, BPF_STX, CODE, INSN_SIZE, REGISTERS, also_next,
+    poison, put_imm,
 };
 use insn_memory::patch_memory;
-use rules::{Resize, Write};
+use rules::{Refusal, Resize, Write};
 use word_read::u8_at;
 
 // What the high half of a value counts.
 const HALF: u64 = 4294967296;
 
-// Why an instruction is invalid (refusal 12).
+// Why an instruction is invalid (refusal 12). Numbers, as document 01 returns them: `call_lines::refusal_number` and
+// `leamugi_numbers::ending_numbers` answer for any reason, and an enum could not hold each.
 const SOURCE_REGISTER: u32 = 1;
 
 const CLASS_INVALID: u32 = 5;
@@ -37,30 +38,29 @@ fn high(value: u64) -> u32
 }
 
 // An immediate operand takes the low half.
-fn patch_alu(insns: &mut [u8], value: u64) -> Patched
+#[tactic(auto, using(crate::proofs::Laws::register, crate::proofs::Laws::immediate))]
+fn patch_alu(insns: &mut [u8], value: u64) -> Result<(), Refusal>
     ensures { patch_of result insns.new ≡ apply.patch_alu insns.old value }
 {
     if u8_at(insns, REGISTERS) / 16 != 0 {
-        return bad_instruction(SOURCE_REGISTER);
+        return Err(Refusal::BadInstruction(SOURCE_REGISTER));
     }
     put_imm(insns, low(value));
-    Patched::Done
+    Ok(())
 }
 
 // A 64-bit immediate: the low half here, the high half in the successor.
-fn patch_wide(insns: &mut [u8], index: u32, value: u64) -> Patched
+#[tactic(auto, unfolding(rules::specs::Apply::patch_wide))]
+fn patch_wide(insns: &mut [u8], index: u32, value: u64) -> Result<(), Refusal>
     ensures { patch_of result insns.new ≡ apply.patch_wide insns.old index value }
 {
     put_imm(insns, low(value));
-    if has_successor(insns) {
-        put_imm(&mut insns[INSN_SIZE..], high(value));
-        return Patched::Done;
-    }
-    no_successor(index)
+    also_next(insns, index, move |next| put_imm(next, high(value)))
 }
 
 // A value, by the instruction's class.
-fn patch_value(insns: &mut [u8], index: u32, value: u64, change: Resize) -> Patched
+#[tactic(auto, using(crate::proofs::Laws::alu, crate::proofs::Laws::memory, crate::proofs::Laws::wide, crate::proofs::Laws::classless))]
+fn patch_value(insns: &mut [u8], index: u32, value: u64, change: Resize) -> Result<(), Refusal>
     ensures { patch_of result insns.new ≡ apply.patch_class (apply.class (apply.code insns.old))
         insns.old index value change }
 {
@@ -68,11 +68,12 @@ fn patch_value(insns: &mut [u8], index: u32, value: u64, change: Resize) -> Patc
         BPF_ALU | BPF_ALU64 => patch_alu(insns, value),
         BPF_LDX | BPF_ST | BPF_STX => patch_memory(insns, value, change),
         BPF_LD => patch_wide(insns, index, value),
-        _ => bad_instruction(CLASS_INVALID),
+        _ => Err(Refusal::BadInstruction(CLASS_INVALID)),
     }
 }
 
-fn patch_front(insns: &mut [u8], index: u32, write: Write) -> Patched
+#[tactic(auto, unfolding(rules::specs::Apply::patch_front))]
+fn patch_front(insns: &mut [u8], index: u32, write: Write) -> Result<(), Refusal>
     ensures { patch_of result insns.new ≡ apply.patch_front insns.old index write }
 {
     match write {
@@ -82,17 +83,19 @@ fn patch_front(insns: &mut [u8], index: u32, write: Write) -> Patched
 }
 
 // Where the instruction with an index begins; the end where there is none.
+#[tactic(auto, using(crate::proofs::Laws::begins, crate::proofs::Laws::ends))]
 fn start_of(insns: &[u8], index: u32) -> usize
     ensures { (result ≡ start_of (length insns.now) index) × (result ≤ length insns.now) }
 {
-    let at = INSN_SIZE * (index as usize);
-    if at < insns.len() { at } else { insns.len() }
+    insns.len().min(INSN_SIZE * (index as usize))
 }
 
 // The patch of the instruction with an index. An index past the end has an answer too, and no byte changes.
-pub fn patch(insns: &mut [u8], index: u32, write: Write) -> Patched
+#[tactic(auto, using(crate::proofs::Laws::patched))]
+pub fn patch(insns: &mut [u8], index: u32, write: Write) -> Result<(), Refusal>
     ensures { patch_of result insns.new ≡ apply.patch insns.old index write }
 {
     let at = start_of(insns, index);
-    patch_front(&mut insns[at..], index, write)
+    let (_, from) = insns.split_at_mut(at);
+    patch_front(from, index, write)
 }

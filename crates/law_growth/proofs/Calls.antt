@@ -25,7 +25,8 @@ use Rattle.rules.specs.declared.Ending.TheVariants.{Stopped, Misshapen}
 use Rattle.rules.specs.Record.{record_of}
 use Rattle.rules.specs.List.{Run, follow, list_of}
 use Rattle.rules.specs.Call.{records_in, ended, end_of, Effect, unrun, run_of, shaped, read_then, relocate_of, relocate_read}
-use Rattle.law_growth.specs.Demand3.{is_refused, any_refused, all_matched, SettledList, FirstHarmed, StoppedAsDue, is_done, SettledCall, CallStopped, Demand3Call}
+use Rattle.law_growth.specs.Demand3.{is_refused, any_refused, all_matched, SettledList, FirstHarmed, StoppedAsDue, is_done, SettledCall, CallStopped}
+use Rattle.law_growth.specs.Demand3.{Demand3Call}
 use Rattle.law_growth.proofs.Whole.{head, others, demand3_list-view}
 
 -- What the answers say
@@ -56,7 +57,7 @@ follow-counted : (r : Record) (rs : List Record) (a : Answer) (xs : List ℕ) (f
     → Counted (r ∷ rs) (follow a xs f).answers
 follow-counted r rs (Applied v) xs f n c = record { calm = c.calm; many = ap suc c.many }
 follow-counted r rs Poisoned xs f n c = record { calm = c.calm; many = ap suc c.many }
-follow-counted r rs (Refused q) xs f n c = let z : ◌≡◌ {A = ℕ} 0 1 = cc in absurd (omega arith)
+follow-counted r rs (Refused q) xs f n c = absurd (cc)
 
 -- The records in front of one, in a settled list
 front-counted : (L T : View) (section : ℕ) (insns : List ℕ) (front more : List Record) → SettledList L T section insns (front ++ more)
@@ -110,7 +111,7 @@ module _ {T E : View} (cl : Closed T) (cl' : Closed E) (ex : Extends T E) (L : V
       go : (b : Bool) → is_done (cond b (run_of L T section insns rs) (unrun Misshapen insns)).said.ending ≡ true
           → Demand3Call L T E section insns (records_in rs) (cond b (run_of L T section insns rs) (unrun Misshapen insns)) (cond b (run_of L E section insns rs) (unrun Misshapen insns))
       go true h = demand_of_run (settled-run h s.matched)
-      go false h = let z : ◌≡◌ {A = ℕ} 0 1 = cc in absurd (omega arith)
+      go false h = absurd (cc)
 
 -- From bytes
 
@@ -143,23 +144,23 @@ reads l lroom t troom tb insns section rs p h = shape (shaped insns section rs) 
     target : (lb : Btf) → Accepted lb ≡ accepted l → ltb lb.last lroom ≡ true → (u : Bool) → ltb tb.last troom ≡ u
         → is_done (read_then Target insns (cond u (Read tb) (TooShort (tb.last + 1))) (next lb)).said.ending ≡ true → Reads l lroom tb troom
     target lb e f true g d = record { lb = lb; is_btf = e; room = f; room' = g }
-    target lb e f false g d = let z : ◌≡◌ {A = ℕ} 0 1 = cc in absurd (omega arith)
+    target lb e f false g d = absurd (cc)
 
     local : (lb : Btf) → Accepted lb ≡ accepted l → (u : Bool) → ltb lb.last lroom ≡ u
         → is_done (read_then Local insns (cond u (Read lb) (TooShort (lb.last + 1)))
         (λ b. read_then Target insns (cond (ltb tb.last troom) (Read tb) (TooShort (tb.last + 1))) (next b))).said.ending ≡ true → Reads l lroom tb troom
     local lb e true f d = target lb e f (ltb tb.last troom) refl d
-    local lb e false f d = let z : ◌≡◌ {A = ℕ} 0 1 = cc in absurd (omega arith)
+    local lb e false f d = absurd (cc)
 
     whole : (x : Whole) → x ≡ accepted l
         → is_done (read_then Local insns (roomy lroom x)
         (λ b. read_then Target insns (cond (ltb tb.last troom) (Read tb) (TooShort (tb.last + 1))) (next b))).said.ending ≡ true → Reads l lroom tb troom
     whole (Accepted lb) e d = local lb e (ltb lb.last lroom) refl d
-    whole (Faulty i) e d = let z : ◌≡◌ {A = ℕ} 0 1 = cc in absurd (omega arith)
-    whole Over e d = let z : ◌≡◌ {A = ℕ} 0 1 = cc in absurd (omega arith)
+    whole (Faulty i) e d = absurd (cc)
+    whole Over e d = absurd (cc)
 
     shape : (b : Bool) → is_done (cond b (read_then Local insns (roomy lroom (accepted l))
         (λ lb. read_then Target insns (cond (ltb tb.last troom) (Read tb) (TooShort (tb.last + 1))) (next lb))) (unrun Misshapen insns)).said.ending ≡ true
         → Reads l lroom tb troom
     shape true d = whole (accepted l) refl d
-    shape false d = let z : ◌≡◌ {A = ℕ} 0 1 = cc in absurd (omega arith)
+    shape false d = absurd (cc)

@@ -3,24 +3,22 @@ use Prim.Native.Nat.{ℕ, zero, suc, ◌+◌, ◌≤◌, ◌<◌}
 use mathlib.Core.Path.{◌≡◌, refl, sym, ap, ◌∙◌}
 use mathlib.Core.Bool.{Bool, true, false, cond, ◌&&◌, ◌||◌, not}
 use mathlib.Core.List.{List, [], ◌∷◌}
-use mathlib.Core.Option.{Option, none, some}
 use native.Mathlib.Omega.{arith}
 use native.Mathlib.Nat.{zero-add}
 use native.Mathlib.Decide.{ℕ_discrete}
 use lib.ListN.{length}
 use lib.Dec.{eqb}
 use borrow.Author.Tests.{ne_eqb}
+use Rattle.rules.specs.declared.Value.{Value}
+use Rattle.rules.specs.declared.Match.{Match}
+use Rattle.rules.specs.declared.Kept.{Kept}
 use Rattle.rules.specs.declared.Refusal.{Refusal}
 use Rattle.rules.specs.declared.Refusal.TheVariants.{Conflict}
-use Rattle.rules.specs.declared.Worth.{Worth}
-use Rattle.rules.specs.declared.Worth.TheVariants.{Known, Unknown}
-use Rattle.rules.specs.declared.Event.{Event}
-use Rattle.rules.specs.declared.Event.TheVariants.{Nothing, Matched, Bad}
-use Rattle.rules.specs.declared.Matches.{Matches}
-use Rattle.rules.specs.declared.Matches.TheVariants.{Kept, Halted}
-use Rattle.rules.specs.Refusal.{Reply, ok, refused, number}
-use Rattle.rules.specs.Record.{agrees, first_of, turn, over, conclude}
-use Rattle.law_growth.specs.Demand3.{causes, harms, own_or, first_own, those, owed, is_due_number}
+use Rattle.rules.specs.Refusal.{Reply, number}
+use Rattle.rules.specs.Record.{agree, agrees, first_of, turn, over, conclude, Matches}
+use Rattle.law_growth.specs.Demand3.{causes, other_value, harms, own_or, first_own, those, owed, is_due_number}
+use Rattle.rules.specs.Matching.{Event}
+use Rattle.std.specs.Prelude.{Err, None, Ok, Option, Some}
 
 -- The fold in two parts, and by events that are the same
 
@@ -41,25 +39,20 @@ over-same f g s i zero h = refl
 over-same f g s i (suc n) h =
     ap (λ (e : Event). over f (turn s i e) (suc i) n) (h i (omega arith)) ∙ over-same f g (turn s i (g i)) (suc i) n (λ j l. h j (omega arith))
 
-over-halted : (f : ℕ → Event) (q : Refusal) (i n : ℕ) → over f (Halted q) i n ≡ Halted q
+over-halted : (f : ℕ → Event) (q : Refusal) (i n : ℕ) → over f (Err q) i n ≡ Err q
 unfolding over turn
 over-halted f q i zero = refl
 over-halted f q i (suc n) = over-halted f q (suc i) n
 
 -- A match harms where it does not agree.
 
-harms-agrees : (b : ℕ) (v : Worth) (b' : ℕ) (v' : Worth) → harms b v (Matched b' v') ≡ not (agrees b v b' v')
-harms-agrees b Unknown b' v' = go (eqb b b')
-  where
-    go : (x : Bool) → (not x || false) ≡ not (x && true)
-    go true = refl
-    go false = refl
-harms-agrees b (Known u) b' Unknown = go (eqb b b')
-  where
-    go : (x : Bool) → (not x || false) ≡ not (x && true)
-    go true = refl
-    go false = refl
-harms-agrees b (Known u) b' (Known w) = go (eqb b b') (eqb u.number w.number)
+other-agree : (v w : Option Value) → other_value v w ≡ not (agree v w)
+other-agree None w = refl
+other-agree (Some v) None = refl
+other-agree (Some v) (Some w) = refl
+
+harms-agrees : (m n : Match) → harms m (Ok (Some n)) ≡ not (agrees m n)
+harms-agrees m n = rw (other-agree m.value n.value) (go (eqb m.bits n.bits) (agree m.value n.value))
   where
     go : (x y : Bool) → (not x || not y) ≡ not (x && y)
     go true y = refl
@@ -67,54 +60,57 @@ harms-agrees b (Known u) b' (Known w) = go (eqb b b') (eqb u.number w.number)
 
 -- The fold from a first match on
 
+-- With it n conflicts are kept, the first of them with id c.
+abbrev kept : Match → ℕ → ℕ → Kept
+kept m c n = record { first = m; conflict = c; count = n }
+
 -- The conflicting ids counted
-abbrev counted : ℕ → Worth → ℕ → ℕ → List ℕ → Matches
-counted b v c n [] = Kept b v c n
-counted b v c n (j ∷ js) = counted b v (first_of n c j) (suc n) js
+abbrev counted : Match → ℕ → ℕ → List ℕ → Matches
+counted m c n [] = Ok (Some (kept m c n))
+counted m c n (j ∷ js) = counted m (first_of n c j) (suc n) js
 
 -- A refusal of a type's own stands before them.
 abbrev ended : Option Refusal → Matches → Matches
-ended none s = s
-ended (some q) s = Halted q
+ended None s = s
+ended (Some q) s = Err q
 
 -- The value of the first match, or what is due
-abbrev pub unless : Worth → Option Refusal → Reply Worth
-unless v none = ok v
-unless v (some q) = refused q
+abbrev pub unless : Option Value → Option Refusal → Reply (Option Value)
+unless v None = Ok v
+unless v (Some q) = Err q
 
-module _ (f : ℕ → Event) (p : ℕ → Bool) (b : ℕ) (v : Worth) (eq : (j : ℕ) → p j ≡ harms b v (f j)) where
+module _ (f : ℕ → Event) (p : ℕ → Bool) (m : Match) (eq : (j : ℕ) → p j ≡ harms m (f j)) where
   -- One id before the rest
-  step : (i m : ℕ) → ((c n : ℕ) → over f (Kept b v c n) (suc i) m ≡ ended (first_own f (suc i) m) (counted b v c n (those p (suc i) m)))
-      → (c n : ℕ) (e : Event) → f i ≡ e → over f (turn (Kept b v c n) i e) (suc i) m
-      ≡ ended (own_or e (first_own f (suc i) m)) (counted b v c n (cond (p i) (i ∷ those p (suc i) m) (those p (suc i) m)))
+  step : (i l : ℕ) → ((c n : ℕ) → over f (Ok (Some (kept m c n))) (suc i) l ≡ ended (first_own f (suc i) l) (counted m c n (those p (suc i) l)))
+      → (c n : ℕ) (e : Event) → f i ≡ e → over f (turn (Ok (Some (kept m c n))) i e) (suc i) l
+      ≡ ended (own_or e (first_own f (suc i) l)) (counted m c n (cond (p i) (i ∷ those p (suc i) l) (those p (suc i) l)))
   unfolding turn
-  step i m rest c n Nothing h =
-      let g : p i ≡ false = eq i ∙ rw h in
-      rw g (rest c n)
-  step i m rest c n (Bad q) h = over-halted f q (suc i) m
-  step i m rest c n (Matched b' v') h = go (agrees b v b' v') (eq i ∙ rw h (harms-agrees b v b' v'))
+  step i l rest c n (Ok None) h = let g : p i ≡ false = eq i ∙ rw h in rw g (rest c n)
+  step i l rest c n (Err q) h = over-halted f q (suc i) l
+  step i l rest c n (Ok (Some m')) h = go (agrees m m') (eq i ∙ rw h (harms-agrees m m'))
     where
-      go : (t : Bool) → p i ≡ not t → over f (cond t (Kept b v c n) (Kept b v (first_of n c i) (suc n))) (suc i) m
-          ≡ ended (first_own f (suc i) m) (counted b v c n (cond (p i) (i ∷ those p (suc i) m) (those p (suc i) m)))
+      go : (t : Bool) → p i ≡ not t → over f (Ok (Some (cond t (kept m c n) (kept m (first_of n c i) (suc n))))) (suc i) l
+          ≡ ended (first_own f (suc i) l) (counted m c n (cond (p i) (i ∷ those p (suc i) l) (those p (suc i) l)))
       go true g = rw g (rest c n)
       go false g = rw g (rest (first_of n c i) (suc n))
 
-  folded : (i m c n : ℕ) → over f (Kept b v c n) i m ≡ ended (first_own f i m) (counted b v c n (those p i m))
+  folded : (i l c n : ℕ) → over f (Ok (Some (kept m c n))) i l ≡ ended (first_own f i l) (counted m c n (those p i l))
   unfolding over first_own those
   folded i zero c n = refl
-  folded i (suc m) c n = step i m (folded (suc i) m) c n (f i) refl
+  folded i (suc l) c n = step i l (folded (suc i) l) c n (f i) refl
 
-  pub concluded : (k i m c : ℕ) → conclude k (over f (Kept b v c 0) i m) ≡ unless v (owed (first_own f i m) (those p i m))
-  concluded k i m c = rw (folded i m c 0) (go (first_own f i m) (those p i m))
+  pub concluded : (k i l c : ℕ) → conclude k (over f (Ok (Some (kept m c 0))) i l) ≡ unless m.value (owed (first_own f i l) (those p i l))
+  unfolding conclude
+  concluded k i l c = rw (folded i l c 0) (go (first_own f i l) (those p i l))
     where
-      many : (d n : ℕ) (js : List ℕ) → counted b v d (suc n) js ≡ Kept b v d (suc (n + length js))
+      many : (d n : ℕ) (js : List ℕ) → counted m d (suc n) js ≡ Ok (Some (kept m d (suc (n + length js))))
       many d n [] = let e : n + 0 ≡ n = omega arith in rw e
       many d n (j ∷ js) = let e : n + suc (length js) ≡ suc n + length js = omega arith in rw e (many d (suc n) js)
 
-      go : (x : Option Refusal) (ids : List ℕ) → conclude k (ended x (counted b v c 0 ids)) ≡ unless v (owed x ids)
-      go (some q) ids = unfold conclude in refl
-      go none [] = unfold conclude in refl
-      go none (j ∷ js) = unfold conclude in rw (many j 0 js, zero-add (length js), ne_eqb (suc (length js)) 0 (λ e. omega arith))
+      go : (x : Option Refusal) (ids : List ℕ) → conclude k (ended x (counted m c 0 ids)) ≡ unless m.value (owed x ids)
+      go (Some q) ids = refl
+      go None [] = refl
+      go None (j ∷ js) = rw (many j 0 js, zero-add (length js), ne_eqb (suc (length js)) 0 (λ e. omega arith))
 
 -- What is due
 
@@ -155,7 +151,7 @@ module _ (p : ℕ → Bool) where
       go false e rest = rest (further (ℕ_discrete i j))
         where
           further : Dec (i ≡ j) → suc i ≤ j
-          further (yes s) = let z : ◌≡◌ {A = ℕ} 0 1 = cc (sym e, ap p s, h) in absurd (omega arith)
+          further (yes s) = absurd (cc (sym e, ap p s, h))
           further (no s) = omega arith
 
   pub those-none-all : (i m : ℕ) → those p i m ≡ [] → (j : ℕ) → i ≤ j → j < i + m → p j ≡ false
@@ -167,7 +163,7 @@ module _ (p : ℕ → Bool) where
 
   those-one : (i m k : ℕ) (ks : List ℕ) → those p i m ≡ k ∷ ks → One p i m
   unfolding those
-  those-one i zero k ks h = let z : ◌≡◌ {A = ℕ} 0 1 = cc in absurd (omega arith)
+  those-one i zero k ks h = absurd (cc)
   those-one i (suc m) k ks h = go (p i) refl h (those-one (suc i) m k ks)
     where
       go : (t : Bool) → p i ≡ t → cond t (i ∷ those p (suc i) m) (those p (suc i) m) ≡ k ∷ ks → (those p (suc i) m ≡ k ∷ ks → One p (suc i) m) → One p i (suc m)
@@ -176,59 +172,58 @@ module _ (p : ℕ → Bool) where
 
 -- Types of which each refusal is harmful, and one that a candidate causes
 pub record Owing (f : ℕ → Event) (p : ℕ → Bool) (i m : ℕ) : Type 0 where
-  pub harm : (j : ℕ) → i ≤ j → j < i + m → (q : Refusal) → f j ≡ Bad q → (p j ≡ true) × (causes q ≡ true)
+  pub harm : (j : ℕ) → i ≤ j → j < i + m → (q : Refusal) → f j ≡ Err q → (p j ≡ true) × (causes q ≡ true)
 
 module _ (f : ℕ → Event) (p : ℕ → Bool) where
   tail : (i m : ℕ) → Owing f p i (suc m) → Owing f p (suc i) m
   tail i m o = record { harm = λ j l k. o.harm j (omega arith) (omega arith) }
 
   -- A refusal of a type's own is harmful and has its number.
-  own-one : (i m : ℕ) → Owing f p i m → (q : Refusal) → first_own f i m ≡ some q → One p i m × (causes q ≡ true)
+  own-one : (i m : ℕ) → Owing f p i m → (q : Refusal) → first_own f i m ≡ Some q → One p i m × (causes q ≡ true)
   unfolding first_own
-  own-one i zero o q h = let z : ◌≡◌ {A = ℕ} 0 1 = cc in absurd (omega arith)
+  own-one i zero o q h = absurd (cc)
   own-one i (suc m) o q h = go (f i) refl h (own-one (suc i) m (tail i m o) q)
     where
-      rest : (first_own f (suc i) m ≡ some q → One p (suc i) m × (causes q ≡ true)) → first_own f (suc i) m ≡ some q → One p i (suc m) × (causes q ≡ true)
+      rest : (first_own f (suc i) m ≡ Some q → One p (suc i) m × (causes q ≡ true)) → first_own f (suc i) m ≡ Some q → One p i (suc m) × (causes q ≡ true)
       rest r g = (later (r g).0, (r g).1)
 
-      go : (e : Event) → f i ≡ e → own_or e (first_own f (suc i) m) ≡ some q → (first_own f (suc i) m ≡ some q → One p (suc i) m × (causes q ≡ true))
+      go : (e : Event) → f i ≡ e → own_or e (first_own f (suc i) m) ≡ Some q → (first_own f (suc i) m ≡ Some q → One p (suc i) m × (causes q ≡ true))
           → One p i (suc m) × (causes q ≡ true)
-      go Nothing e g r = rest r g
-      go (Matched b v) e g r = rest r g
-      go (Bad q') e g r =
+      go (Ok m) e g r = rest r g
+      go (Err q') e g r =
           let same : q' ≡ q = cc in
-          let it : (p i ≡ true) × (causes q ≡ true) = o.harm i (omega arith) (omega arith) q (e ∙ ap Bad same) in (record { id = i; low = omega arith; high = omega arith; holds = it.0 }, it.1)
+          let it : (p i ≡ true) × (causes q ≡ true) = o.harm i (omega arith) (omega arith) q (e ∙ ap Err same) in (record { id = i; low = omega arith; high = omega arith; holds = it.0 }, it.1)
 
   module _ (i m : ℕ) (o : Owing f p i m) where
     -- Nothing is due where nothing is harmful;
-    pub owed_none : ((j : ℕ) → i ≤ j → j < i + m → p j ≡ false) → owed (first_own f i m) (those p i m) ≡ none
+    pub owed_none : ((j : ℕ) → i ≤ j → j < i + m → p j ≡ false) → owed (first_own f i m) (those p i m) ≡ None
     owed_none h = rw (those-none p i m h) (go (first_own f i m) refl)
       where
-        go : (x : Option Refusal) → first_own f i m ≡ x → owed x [] ≡ none
-        go none e = refl
-        go (some q) e =
+        go : (x : Option Refusal) → first_own f i m ≡ x → owed x [] ≡ None
+        go None e = refl
+        go (Some q) e =
             let one : One p i m = (own-one i m o q e).0 in
-            let z : ◌≡◌ {A = ℕ} 0 1 = cc (h one.id one.low one.high, one.holds) in absurd (omega arith)
+            absurd (cc (h one.id one.low one.high, one.holds))
 
     -- something is where something is;
-    pub owed-some : (j : ℕ) → i ≤ j → j < i + m → p j ≡ true → (q : Refusal) × (owed (first_own f i m) (those p i m) ≡ some q)
+    pub owed-some : (j : ℕ) → i ≤ j → j < i + m → p j ≡ true → (q : Refusal) × (owed (first_own f i m) (those p i m) ≡ Some q)
     owed-some j l k h = go (first_own f i m) (those p i m) (those-some p i m j l k h)
       where
-        go : (x : Option Refusal) (ids : List ℕ) → (k : ℕ) × (ks : List ℕ) × (ids ≡ k ∷ ks) → (q : Refusal) × (owed x ids ≡ some q)
-        go (some q) ids g = (q, refl)
-        go none [] g = let e : [] ≡ g.0 ∷ g.1 = g.2 in let z : ◌≡◌ {A = ℕ} 0 1 = cc in absurd (omega arith)
-        go none (k ∷ ks) g = (Conflict k (suc (length ks)), refl)
+        go : (x : Option Refusal) (ids : List ℕ) → (k : ℕ) × (ks : List ℕ) × (ids ≡ k ∷ ks) → (q : Refusal) × (owed x ids ≡ Some q)
+        go (Some q) ids g = (q, refl)
+        go None [] g = let e : [] ≡ g.0 ∷ g.1 = g.2 in absurd (cc)
+        go None (k ∷ ks) g = (Conflict k (suc (length ks)), refl)
 
     -- and only then; and it has one of the numbers.
-    pub owed-one : (q : Refusal) → owed (first_own f i m) (those p i m) ≡ some q → One p i m × (is_due_number (number q) ≡ true)
+    pub owed-one : (q : Refusal) → owed (first_own f i m) (those p i m) ≡ Some q → One p i m × (is_due_number (number q) ≡ true)
     owed-one q h = go (first_own f i m) refl (those p i m) refl h
       where
         conflict : (k n : ℕ) → Conflict k n ≡ q → is_due_number (number q) ≡ true
         conflict k n e = rw (← e)
 
-        go : (x : Option Refusal) → first_own f i m ≡ x → (ids : List ℕ) → those p i m ≡ ids → owed x ids ≡ some q → One p i m × (is_due_number (number q) ≡ true)
-        go (some q') e ids g t =
+        go : (x : Option Refusal) → first_own f i m ≡ x → (ids : List ℕ) → those p i m ≡ ids → owed x ids ≡ Some q → One p i m × (is_due_number (number q) ≡ true)
+        go (Some q') e ids g t =
             let same : q' ≡ q = cc in
-            let it : One p i m × (causes q ≡ true) = own-one i m o q (e ∙ ap some same) in (it.0, causes-number q it.1)
-        go none e [] g t = let z : ◌≡◌ {A = ℕ} 0 1 = cc in absurd (omega arith)
-        go none e (k ∷ ks) g t = let same : Conflict k (suc (length ks)) ≡ q = cc in (those-one p i m k ks g, conflict k (suc (length ks)) same)
+            let it : One p i m × (causes q ≡ true) = own-one i m o q (e ∙ ap Some same) in (it.0, causes-number q it.1)
+        go None e [] g t = absurd (cc)
+        go None e (k ∷ ks) g t = let same : Conflict k (suc (length ks)) ≡ q = cc in (those-one p i m k ks g, conflict k (suc (length ks)) same)

@@ -1,3 +1,4 @@
+pub mod Replies
 pub mod Types
 pub mod Values
 pub mod Matching

@@ -3,7 +3,6 @@ use Prim.Native.Nat.{ℕ}
 use mathlib.Core.Path.{◌≡◌, refl, sym, ap, subst}
 use mathlib.Core.Bool.{Bool, true, false}
 use mathlib.Core.List.{List, [], ◌∷◌, ◌++◌}
-use native.Mathlib.Omega.{arith}
 use Rattle.btf_pass.proofs.Tests.{and_l, and_r}
 use Rattle.btf_view.specs.View.{View}
 use Rattle.btf_view.proofs.Extends.{Closed, Extends}
@@ -13,7 +12,8 @@ use Rattle.rules.specs.declared.Answer.{Answer}
 use Rattle.rules.specs.declared.Answer.TheVariants.{Applied, Poisoned, Refused}
 use Rattle.rules.specs.Record.{Outcome, record_of}
 use Rattle.rules.specs.List.{Run, follow, list_of}
-use Rattle.law_growth.specs.Demand3.{Past, harmful, is_refused, is_matched, Settled, Demand3, all_matched, SettledList, Unharmed, FirstHarmed, any_refused, StoppedAsDue, Demand3List}
+use Rattle.law_growth.specs.Demand3.{Past, harmful, is_refused, is_matched, Settled, Demand3, all_matched, SettledList, Unharmed, FirstHarmed}
+use Rattle.law_growth.specs.Demand3.{any_refused, StoppedAsDue, Demand3List}
 use Rattle.law_growth.proofs.One.{demand3-view}
 
 follow-same : (a : Answer) (xs : List ℕ) (f g : List ℕ → Run) → f xs ≡ g xs → follow a xs f ≡ follow a xs g
@@ -33,7 +33,7 @@ follow-ending (Refused q') xs f g q n h = cc
 follow-accepted : (a : Answer) (xs : List ℕ) (f : List ℕ → Run) → any_refused (follow a xs f).answers ≡ false → (is_refused a ≡ false) × (any_refused (f xs).answers ≡ false)
 follow-accepted (Applied v) xs f h = (refl, h)
 follow-accepted Poisoned xs f h = (refl, h)
-follow-accepted (Refused q) xs f h = let z : ◌≡◌ {A = ℕ} 0 1 = cc in absurd (omega arith)
+follow-accepted (Refused q) xs f h = absurd (cc)
 
 follow-refused : (a : Answer) (xs : List ℕ) (f : List ℕ → Run) → is_refused a ≡ false → any_refused (follow a xs f).answers ≡ true → any_refused (f xs).answers ≡ true
 follow-refused (Applied v) xs f n h = h
@@ -93,7 +93,7 @@ module _ {T E : View} (cl : Closed T) (cl' : Closed E) (ex : Extends T E) (L : V
 
   list-only : (insns : List ℕ) (rs : List Record) → SettledList L T section insns rs → any_refused (list_of L E section insns rs).answers ≡ true → FirstHarmed L T E rs
   unfolding list_of
-  list-only insns [] s h = let z : ◌≡◌ {A = ℕ} 0 1 = cc in absurd (omega arith)
+  list-only insns [] s h = absurd (cc)
   list-only insns (r ∷ rs) s h = go (is_refused (record_of L E section insns r).answer) refl (list-only (record_of L T section insns r).insns rs (others s))
     where
       went : is_refused (record_of L E section insns r).answer ≡ false → any_refused (list_of L E section (record_of L T section insns r).insns rs).answers ≡ true

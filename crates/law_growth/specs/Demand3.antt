@@ -1,7 +1,7 @@
 -- Demand 3 (document 01, sections 5 and 11): growing the target's type list never changes a number already found.
 -- This file says it, and no more; it is proved in Proved. In plain words, with C structs: docs/DEMAND-3.md.
-use Rattle.std.specs.Prelude.{ℕ, zero, suc, ◌-◌, ◌≤◌, ◌<◌, ◌≡◌, Bool, true, false, cond, ◌&&◌, ◌||◌, not, List, [], ◌∷◌, ◌++◌, length, eqb}
-use Rattle.std.proofs.Math.Option.{Option, none, some}
+use Rattle.std.specs.Prelude.{ℕ, zero, suc, ◌-◌, ◌≤◌, ◌<◌, ◌≡◌, Bool, true, false, cond, ◌&&◌, ◌||◌, not, List, [], ◌∷◌, ◌++◌, length, eqb, Err, None}
+use Rattle.std.specs.Prelude.{Ok, Option, Some}
 use Rattle.btf_kinds.specs.Types.{void}
 use Rattle.btf_accept.specs.declared.Btf.{Btf}
 use Rattle.btf_accept.specs.declared.Whole.{Whole}
@@ -11,24 +11,21 @@ use Rattle.btf_accept.specs.Accept.{accepted}
 use Rattle.btf_view.specs.View.{View, doc_view}
 use Rattle.rules.specs.declared.Refusal.{Refusal}
 use Rattle.rules.specs.declared.Refusal.TheVariants.{Conflict}
-use Rattle.rules.specs.declared.Worth.{Worth}
-use Rattle.rules.specs.declared.Worth.TheVariants.{Known, Unknown}
-use Rattle.rules.specs.declared.Event.{Event}
-use Rattle.rules.specs.declared.Event.TheVariants.{Nothing, Matched, Bad}
-use Rattle.rules.specs.declared.Matches.{Matches}
-use Rattle.rules.specs.declared.Matches.TheVariants.{Unmatched, Kept, Halted}
+use Rattle.rules.specs.declared.Value.{Value}
+use Rattle.rules.specs.declared.Match.{Match}
 use Rattle.rules.specs.declared.Record.{Record}
 use Rattle.rules.specs.declared.Answer.{Answer}
 use Rattle.rules.specs.declared.Answer.TheVariants.{Applied, Poisoned, Refused}
 use Rattle.rules.specs.declared.Ending.{Ending}
 use Rattle.rules.specs.declared.Ending.TheVariants.{Done, BadBtf, OverLimit, TableShort, Stopped, Misshapen}
 use Rattle.rules.specs.Kinds.{type_id_local}
-use Rattle.rules.specs.Refusal.{Reply, ok, refused, number}
+use Rattle.rules.specs.Refusal.{Reply, number}
 use Rattle.rules.specs.Access.{Access}
 use Rattle.rules.specs.Value.{local_value}
-use Rattle.rules.specs.Record.{over, event_at, accessed, refuse, record_of}
+use Rattle.rules.specs.Record.{over, event_at, accessed, refuse, record_of, Matches}
 use Rattle.rules.specs.List.{list_of}
 use Rattle.rules.specs.Call.{ended, Effect}
+use Rattle.rules.specs.Matching.{Event}
 
 -- Two targets
 
@@ -61,16 +58,16 @@ Past T E i = (T.count < i) × (i ≤ E.count)
 
 -- By what the record accesses: a type that is no candidate gives nothing.
 abbrev pub given_to : View → View → Record → ℕ → Reply Access → Event
-given_to L T r i (ok a) = event_at L T r a (local_value L.typ r.kind a) i
-given_to L T r i (refused q) = Nothing
+given_to L T r i (Ok a) = event_at L T r a (local_value L.typ r.kind a) i
+given_to L T r i (Err q) = Ok None
 
 -- What the target's type i gives: nothing, a match, or a refusal. `TypeIdLocal` looks at no target.
 unfoldable pub gives : View → View → Record → ℕ → Event
-gives L T r i = cond (eqb r.kind type_id_local) Nothing (given_to L T r i (accessed L r))
+gives L T r i = cond (eqb r.kind type_id_local) (Ok None) (given_to L T r i (accessed L r))
 
 -- The record's first match among all of the target's types
 unfoldable pub first_match : View → View → Record → Matches
-first_match L T r = over (gives L T r) Unmatched 0 (suc T.count)
+first_match L T r = over (gives L T r) (Ok None) 0 (suc T.count)
 
 -- Harm
 
@@ -79,21 +76,21 @@ unfoldable pub causes : Refusal → Bool
 causes q = eqb (number q) 11 || eqb (number q) 14 || eqb (number q) 16 || eqb (number q) 17
 
 -- Another value, where both have one
-abbrev pub other_value : Worth → Worth → Bool
-other_value Unknown w = false
-other_value (Known v) Unknown = false
-other_value (Known v) (Known w) = not (eqb v.number w.number)
+abbrev pub other_value : Option Value → Option Value → Bool
+other_value None w = false
+other_value (Some v) None = false
+other_value (Some v) (Some w) = not (eqb v.number w.number)
 
--- What harms a first match at bit b with the value v: a refusal; a match with another bit offset, or with another value
-abbrev pub harms : ℕ → Worth → Event → Bool
-harms b v Nothing = false
-harms b v (Bad q) = causes q
-harms b v (Matched b' v') = not (eqb b b') || other_value v v'
+-- What harms a first match m: a refusal; a match with another bit offset, or with another value
+abbrev pub harms : Match → Event → Bool
+harms m (Ok None) = false
+harms m (Err q) = causes q
+harms m (Ok (Some n)) = not (eqb m.bits n.bits) || other_value m.value n.value
 
 abbrev pub harms_first : Matches → Event → Bool
-harms_first Unmatched e = false
-harms_first (Kept b v c n) e = harms b v e
-harms_first (Halted q) e = false
+harms_first (Ok None) e = false
+harms_first (Ok (Some k)) e = harms k.first e
+harms_first (Err q) e = false
 
 -- The type i of the grown target E is harmful to what the record found in T.
 unfoldable pub harmful : View → View → View → Record → ℕ → Bool
@@ -103,13 +100,12 @@ harmful L T E r i = harms_first (first_match L T r) (gives L E r i)
 
 -- A type's own refusal, or what is found among the others
 abbrev pub own_or : Event → Option Refusal → Option Refusal
-own_or Nothing other = other
-own_or (Matched b v) other = other
-own_or (Bad q) other = some q
+own_or (Ok m) other = other
+own_or (Err q) other = Some q
 
 -- The first refusal that one of n types, from id i on, gives itself
 unfoldable pub first_own : (ℕ → Event) → ℕ → ℕ → Option Refusal
-first_own f i zero = none
+first_own f i zero = None
 first_own f i (suc n) = own_or (f i) (first_own f (suc i) n)
 
 -- Those of n ids, from i on, for which a test holds
@@ -119,9 +115,9 @@ those p i (suc n) = let more = those p (suc i) n in cond (p i) (i ∷ more) more
 
 -- A type's own refusal comes first, wherever it stands. Else it is a conflict: the first harmful id, and how many there are.
 abbrev pub owed : Option Refusal → List ℕ → Option Refusal
-owed (some q) ids = some q
-owed none [] = none
-owed none (i ∷ more) = some (Conflict i (suc (length more)))
+owed (Some q) ids = Some q
+owed None [] = None
+owed None (i ∷ more) = Some (Conflict i (suc (length more)))
 
 -- The harmful ids past the old end, in order
 unfoldable pub harmful_ids : View → View → View → Record → List ℕ
@@ -143,9 +139,9 @@ is_refused Poisoned = false
 is_refused (Refused q) = true
 
 abbrev pub has_match : Matches → Bool
-has_match Unmatched = false
-has_match (Kept b v c n) = true
-has_match (Halted q) = false
+has_match (Ok None) = false
+has_match (Ok (Some k)) = true
+has_match (Err q) = false
 
 -- The record has a match in the target T; or it is `TypeIdLocal`, which needs none.
 abbrev pub is_matched : View → View → Record → Bool
@@ -159,7 +155,7 @@ pub record Settled (L T : View) (section : ℕ) (insns : List ℕ) (r : Record) 
 -- Refused with what is due, and every instruction byte as it was
 pub record RefusedAsDue (L T E : View) (section : ℕ) (insns : List ℕ) (r : Record) : Type 0 where
   pub refusal : Refusal
-  pub is_due : due L T E r ≡ some refusal
+  pub is_due : due L T E r ≡ Some refusal
   pub numbered : is_due_number (number refusal) ≡ true
   pub outcome : record_of L E section insns r ≡ refuse insns refusal
 
@@ -206,7 +202,7 @@ pub record FirstHarmed (L T E : View) (rs : List Record) : Type 0 where
 -- The records in front go as they went against T, the harmed one is refused with what is due, and changes no byte.
 pub record StoppedAsDue (L T E : View) (section : ℕ) (insns : List ℕ) (front : List Record) (r : Record) (rs : List Record) : Type 0 where
   pub refusal : Refusal
-  pub is_due : due L T E r ≡ some refusal
+  pub is_due : due L T E r ≡ Some refusal
   pub numbered : is_due_number (number refusal) ≡ true
   pub run : list_of L E section insns rs
       ≡ record { answers = (list_of L T section insns front).answers ++ (Refused refusal ∷ []); insns = (list_of L T section insns front).insns }
@@ -235,7 +231,7 @@ pub record SettledCall (L T : View) (rs : List Record) (before : Effect) : Type 
 -- A call that ended at the harmed record, whose number in the list is also how many were applied
 pub record CallStopped (L T E : View) (section : ℕ) (insns : List ℕ) (front : List Record) (r : Record) (after : Effect) : Type 0 where
   pub refusal : Refusal
-  pub is_due : due L T E r ≡ some refusal
+  pub is_due : due L T E r ≡ Some refusal
   pub numbered : is_due_number (number refusal) ≡ true
   pub effect : after ≡ record { said = ended (Stopped (length front) refusal) (length front); insns = (list_of L T section insns front).insns }
 

@@ -5,13 +5,13 @@ use mathlib.Core.Path.{◌≡◌, refl, sym, ap, ap₂, ◌∙◌, subst}
 use mathlib.Core.Bool.{Bool, true, false, cond}
 use mathlib.Core.List.{List, [], ◌∷◌, ◌++◌, append-nil}
 use mathlib.Core.Logic.{◌⊎◌, ⊎_elim, inl, inr}
-use mathlib.Core.Option.{Option, none, some}
 use native.Mathlib.Omega.{arith}
 use lib.Dec.{T, eqb, ltb}
 use borrow.Author.Tests.{lt-ltb, ltb-true}
 use Rattle.btf_kinds.proofs.Keys.{split}
 use lib.ListN.{length, get_or, take, drop, set, length-set, length-take, length-drop, length-append, take-append-drop, drop_of_length-le}
-use lib.Seq.{sets, take-set-lt, drop-set-lt, get_or-take, take_all, length-take-le, take-add, take_at, drop_at, take-take, take-append-add, drop-append-add, drop-drop}
+use lib.Seq.{sets, take-set-lt, drop-set-lt, get_or-take, take_all, length-take-le, take-add, take_at, drop_at, take-take, take-append-add}
+use lib.Seq.{drop-append-add, drop-drop}
 use Rattle.word_read.specs.Num.{Order, little}
 use Rattle.word_read.specs.Put.{first, rest, put_at}
 use Rattle.rules.specs.declared.Refusal.{Refusal}
@@ -20,9 +20,11 @@ use Rattle.rules.specs.declared.Resize.{Resize}
 use Rattle.rules.specs.declared.Resize.TheVariants.{Same, OneSided, Unlike, To}
 use Rattle.rules.specs.declared.Write.{Write}
 use Rattle.rules.specs.declared.Write.TheVariants.{Put, Poison}
-use Rattle.rules.specs.Apply.{Patch, done, stopped, has_slot, code, class, is_alu, is_memory, is_wide, source_register, with_code, with_off, with_imm, low, high, poisoned, also_next, poison, patch_alu}
+use Rattle.rules.specs.Apply.{Patch, done, stopped, has_slot, code, class, is_alu, is_memory, is_wide, source_register, with_code, with_off, with_imm}
+use Rattle.rules.specs.Apply.{low, high, poisoned, also_next, poison, patch_alu}
 use Rattle.rules.specs.Apply.{size_bits, with_size, resized, resize, patch_memory, patch_wide, patch_class, patch_front, behind, patch}
 use Rattle.law_order.specs.Kept.{bytes_of, Partial, takes_next, patch_width, mapped, patch_width_at, Keeps}
+use Rattle.std.specs.Prelude.{None, Option, Some}
 
 -- A writer of the first r bytes: it does the same to them alone, and leaves those behind.
 pub record Writes (r : ℕ) (f : List ℕ → List ℕ) : Type 0 where
@@ -102,8 +104,8 @@ module _ {r i : ℕ} {f : List ℕ → List ℕ} (p : Writes r f) (xs : List ℕ
   resizes h (To s) = go (size_bits s)
     where
       go : (o : Option ℕ) → Kept r i xs (resized (f xs) o) (resized (f (take r xs)) o)
-      go none = stops (BadInstruction 4) (inr (inr (inl refl)))
-      go (some b) =
+      go None = stops (BadInstruction 4) (inr (inr (inl refl)))
+      go (Some b) =
           let q = after p (size-writes r h b) in
           record { cut = ap done (q.cut xs); rest = q.rest xs; long = q.long xs; left = tt }
 

@@ -18,13 +18,14 @@ use Rattle.rules.specs.declared.Answer.{Answer}
 use Rattle.rules.specs.declared.Answer.TheVariants.{Applied, Poisoned, Refused}
 use Rattle.rules.specs.declared.Ending.TheVariants.{Stopped, Misshapen}
 use Rattle.rules.specs.Kinds.{enum_value}
-use Rattle.rules.specs.Refusal.{Reply, ok, refused, returned}
+use Rattle.rules.specs.Refusal.{Reply, returned}
 use Rattle.rules.specs.Apply.{Patch, done, stopped, patch}
 use Rattle.rules.specs.Record.{Outcome, relocated, outcome, refuse, apply, index_of, in_function, record_of}
 use Rattle.rules.specs.List.{follow, list_of}
 use Rattle.rules.specs.Call.{records_in, end_of, run_of, shaped, unrun, relocate_read}
 use Rattle.law_order.specs.Kept.{Partial, is_partial, RecordKeeps, CallKeeps}
 use Rattle.law_order.proofs.KeptLaws.{keeps}
+use Rattle.std.specs.Prelude.{Err, Ok}
 
 -- What a refusal leaves, in one outcome
 abbrev Leaving : List ℕ → Refusal → Outcome → Type 0
@@ -39,8 +40,8 @@ partial i r (inr (inr (inr e))) = rw e
 
 -- A patch that stopped
 patched : (xs : List ℕ) (i : ℕ) (q : Refusal) (w : Write) (p : Patch) → patch xs i w ≡ p → Leaving xs q (outcome w p)
-patched xs i q (Put n z) (done ys) e a h = let y : ◌≡◌ {A = ℕ} 0 1 = cc in absurd (omega arith)
-patched xs i q Poison (done ys) e a h = let y : ◌≡◌ {A = ℕ} 0 1 = cc in absurd (omega arith)
+patched xs i q (Put n z) (done ys) e a h = absurd (cc)
+patched xs i q Poison (done ys) e a h = absurd (cc)
 patched xs i q w (stopped r ys) e a h = go ((keeps xs i w).refused e)
   where
     same : r ≡ q
@@ -49,8 +50,7 @@ patched xs i q w (stopped r ys) e a h = go ((keeps xs i w).refused e)
     go : (ys ≡ xs) ⊎ Partial i r → ys ≡ xs
     go (inl k) = k
     go (inr k) =
-        let t : is_partial q ≡ true = rw (← same) (partial i r k) in
-        let y : ◌≡◌ {A = ℕ} 0 1 = cc in absurd (omega arith)
+        let t : is_partial q ≡ true = rw (← same) (partial i r k) in absurd (cc)
 
 pub record_keeps : (L T : View) (section : ℕ) (xs : List ℕ) (r : Record) → RecordKeeps L T section xs r
 unfolding record_of apply
@@ -60,8 +60,8 @@ record_keeps L T section xs r q = go (ltb enum_value r.kind) (not (in_function s
     i = index_of section r
 
     applied : (x : Reply Write) → Leaving xs q (apply xs i x)
-    applied (refused s) a h = refl
-    applied (ok w) a h = patched xs i q w (patch xs i w) refl a h
+    applied (Err s) a h = refl
+    applied (Ok w) a h = patched xs i q w (patch xs i w) refl a h
 
     go : (b c : Bool) (x : Reply Write) → Leaving xs q (cond b (refuse xs (KindTooBig r.kind)) (cond c (refuse xs NotInFunction) (apply xs i x)))
     go true c x a h = refl
@@ -73,7 +73,7 @@ record_keeps L T section xs r q = go (ltb enum_value r.kind) (not (in_function s
 -- no record before the first is named
 not_before : (k j : ℕ) (q : Refusal) (ys : List Answer) → (end_of k ys).ending ≡ Stopped j q → k ≤ j
 unfolding end_of
-not_before k j q [] h = let y : ◌≡◌ {A = ℕ} 0 1 = cc in absurd (omega arith)
+not_before k j q [] h = absurd (cc)
 not_before k j q (Applied v ∷ ys) h = omega (arith, not_before (k + 1) j q ys h)
 not_before k j q (Poisoned ∷ ys) h = omega (arith, not_before (k + 1) j q ys h)
 not_before k j q (Refused s ∷ ys) h = let e : k ≡ j = cc in omega arith
@@ -83,7 +83,7 @@ module _ (L T : View) (section : ℕ) where
   list-keeps : (k j : ℕ) (q : Refusal) → is_partial q ≡ false → (xs : List ℕ) (rs : List Record) → (end_of k (list_of L T section xs rs).answers).ending ≡ Stopped j q
       → (list_of L T section xs rs).insns ≡ (list_of L T section xs (take (j - k) rs)).insns
   unfolding list_of end_of
-  list-keeps k j q n xs [] h = let y : ◌≡◌ {A = ℕ} 0 1 = cc in absurd (omega arith)
+  list-keeps k j q n xs [] h = absurd (cc)
   list-keeps k j q n xs (r ∷ rs) h = go (record_of L T section xs r).answer refl h (λ g. list-keeps (k + 1) j q n (record_of L T section xs r).insns rs g)
     where
       ys : List ℕ
@@ -117,11 +117,8 @@ module _ (L T : View) (section : ℕ) where
       }
         where
           never : (k : ℕ) (ys : List Answer) → (end_of k ys).ending ≡ Misshapen → ⊥
-          never k [] h = let y : ◌≡◌ {A = ℕ} 0 1 = cc in omega arith
+          never k [] h = cc
           never k (Applied v ∷ ys) h = never (k + 1) ys h
           never k (Poisoned ∷ ys) h = never (k + 1) ys h
-          never k (Refused s ∷ ys) h = let y : ◌≡◌ {A = ℕ} 0 1 = cc in omega arith
-      go false = record { stopped = λ k q e n. refused_not e; misshapen = λ e. refl }
-        where
-          refused_not : {A : Type 0} {k : ℕ} {q : Refusal} → Misshapen ≡ Stopped k q → A
-          refused_not h = let y : ◌≡◌ {A = ℕ} 0 1 = cc in absurd (omega arith)
+          never k (Refused s ∷ ys) h = cc
+      go false = record { stopped = λ k q e n. absurd (cc); misshapen = λ e. refl }

@@ -15,13 +15,14 @@ use Rattle.rules.specs.declared.Write.{Write}
 use Rattle.rules.specs.declared.Write.TheVariants.{Put, Poison}
 use Rattle.rules.specs.declared.Record.{Record}
 use Rattle.rules.specs.Kinds.{enum_value}
-use Rattle.rules.specs.Refusal.{Reply, ok, refused}
+use Rattle.rules.specs.Refusal.{Reply}
 use Rattle.rules.specs.Apply.{Patch, done, stopped, code, class, is_wide, patch_front, patch}
 use Rattle.rules.specs.Record.{relocated, Outcome, outcome, refuse, apply, index_of, in_function, record_of}
 use Rattle.law_order.specs.Kept.{bytes_of, takes_next, patch_width, mapped, patch_width_at}
 use Rattle.law_order.proofs.KeptLaws.{keeps}
 use Rattle.law_order.proofs.Apart.{drop-take, later}
 use Rattle.law_order.specs.AnyOrder.{span, Touching}
+use Rattle.std.specs.Prelude.{Err, Ok}
 
 -- A patch that takes the next instruction is of class 0.
 pub takes-wide : (c : ℕ) (w : Write) → takes_next c w ≡ true → is_wide (class c) ≡ true
@@ -76,7 +77,7 @@ module _ (i : ℕ) (w : Write) (ys : List ℕ) where
       go false e true f = omega arith
       go false e false f = omega arith
       go true e true f = omega arith
-      go true e false f = let z : ◌≡◌ {A = ℕ} 0 1 = cc (sym (takes-wide (code (drop a ys)) w e), f) in omega arith
+      go true e false f = absurd (cc (sym (takes-wide (code (drop a ys)) w e), f))
 
   some-wide : 8 ≤ wide
   some-wide = go (is_wide (class (code (drop a ys))))
@@ -166,8 +167,8 @@ module _ (section : ℕ) (insns : List ℕ) (r : Record) where
   unfolding apply
   staged true b x = refusing (KindTooBig r.kind)
   staged false false x = refusing NotInFunction
-  staged false true (refused q) = refusing q
-  staged false true (ok w) = patching w
+  staged false true (Err q) = refusing q
+  staged false true (Ok w) = patching w
 
 -- What a record's answer depends on
 pub touching : (L T : View) (section : ℕ) (insns : List ℕ) (r : Record) → Touching L T section insns r

@@ -3,7 +3,6 @@ use Prim.Native.Nat.{ℕ, suc, ◌+◌, ◌*◌, ◌≤◌, ◌<◌}
 use mathlib.Core.Path.{◌≡◌, refl, sym, ap, ◌∙◌}
 use mathlib.Core.Bool.{Bool, true, false, cond, ◌||◌}
 use mathlib.Core.List.{List}
-use mathlib.Core.Option.{none}
 use native.Mathlib.Omega.{arith}
 use native.Mathlib.Decide.{dec_lt}
 use lib.ListN.{length, drop}
@@ -21,14 +20,15 @@ use Rattle.law_growth.specs.Demand3.{is_refused}
 use Rattle.law_growth.proofs.One.{stages}
 use Rattle.law_order.proofs.Touching.{takes-wide, left}
 use Rattle.law_order.specs.AnyOrder.{touches, NoCommon, IsAccepted, EitherOrder}
+use Rattle.std.specs.Prelude.{None}
 
 -- What an outcome shows of its patch
 
-answered : (w : Write) (p : Patch) → refusal_of p ≡ none → (outcome w p).answer ≡ shown w
+answered : (w : Write) (p : Patch) → refusal_of p ≡ None → (outcome w p).answer ≡ shown w
 answered w (done xs) h = refl
 answered w (stopped q xs) h = cc
 
-applied : (w : Write) (p : Patch) → is_refused (outcome w p).answer ≡ false → refusal_of p ≡ none
+applied : (w : Write) (p : Patch) → is_refused (outcome w p).answer ≡ false → refusal_of p ≡ None
 applied w (done xs) h = refl
 applied w (stopped q xs) h = cc
 
@@ -74,9 +74,7 @@ no_common_sym section insns r s n k h = go (touches section insns r k) refl
 module _ (section : ℕ) (insns : List ℕ) (r s : Record) (n : NoCommon section insns r s) where
   -- not the same instruction, nor the next of a wide one
   elsewhere : (k : ℕ) → touches section insns r k ≡ true → index_of section s ≡ k → ⊥
-  elsewhere k h e =
-      let z : ◌≡◌ {A = ℕ} 0 1 = cc (sym (own section insns s), ap (touches section insns s) e, n k h) in
-      omega arith
+  elsewhere k h e = cc (sym (own section insns s), ap (touches section insns s) e, n k h)
 
   -- so what r's patch reaches ends before s's instruction, where that stands behind
   room : (w : Write) → index_of section r < index_of section s → 8 * index_of section r + patch_width_at insns (index_of section r) w ≤ 8 * index_of section s
@@ -103,7 +101,7 @@ module _ (L T : View) (section : ℕ) (insns : List ℕ) (r : Record) (p : IsAcc
   after : (record_of L T section insns r).insns ≡ bytes_of (patch insns i w)
   after = ap (λ (o : Outcome). o.insns) ((patches L T section insns r p).is insns refl) ∙ left w (patch insns i w)
 
-  applies : refusal_of (patch insns i w) ≡ none
+  applies : refusal_of (patch insns i w) ≡ None
   applies = applied w (patch insns i w) (sym (ap (λ (o : Outcome). is_refused o.answer) ((patches L T section insns r p).is insns refl)) ∙ p)
 
   -- on as many other instructions, where the patch says the same

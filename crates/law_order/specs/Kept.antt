@@ -1,7 +1,6 @@
 -- What a patch, a record and a call leave as it was (document 01, the last sentence of section 3, and section 7).
 -- Assumes nothing.
-use Rattle.std.specs.Prelude.{ℕ, ◌+◌, ◌*◌, ◌≡◌, Bool, false, cond, ◌&&◌, ◌||◌, List, ◌⊎◌, eqb, length, get_or, take, drop}
-use Rattle.std.proofs.Math.Option.{Option, none, some}
+use Rattle.std.specs.Prelude.{ℕ, ◌+◌, ◌*◌, ◌≡◌, Bool, false, cond, ◌&&◌, ◌||◌, List, ◌⊎◌, eqb, length, get_or, take, drop, None, Option, Some}
 use Rattle.btf_view.specs.View.{View}
 use Rattle.rules.specs.declared.Record.{Record}
 use Rattle.rules.specs.declared.Answer.TheVariants.{Refused}
@@ -22,8 +21,8 @@ bytes_of (done xs) = xs
 bytes_of (stopped r xs) = xs
 
 abbrev pub refusal_of : Patch → Option Refusal
-refusal_of (done xs) = none
-refusal_of (stopped r xs) = some r
+refusal_of (done xs) = None
+refusal_of (stopped r xs) = Some r
 
 -- The refusals that may leave other bytes: 6, and 12 with reason 3, 4 or 6
 abbrev pub Partial : ℕ → Refusal → Type 0

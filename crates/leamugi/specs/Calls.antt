@@ -1,12 +1,11 @@
 -- A call on BTFs that were read before, and its report, as the numbers that are said of them.
-use Rattle.std.specs.Prelude.{ℕ, List}
+use Rattle.std.specs.Prelude.{ℕ, List, get_or, Result, Ok, Err}
 use Rattle.std.specs.Borrow.{Bor}
 use denote.Triple.Both.{Both}
 use Rattle.btf_view.specs.View.{View, tab_view}
 use Rattle.rules.specs.Call.{records_in, relocate_read}
 use Rattle.rules.specs.Report.{report_said}
-use Rattle.call_report.specs.declared.Reported.{Reported}
-use Rattle.call_report.specs.declared.Reported.TheVariants.{Written, Needed}
+use Rattle.call_report.specs.declared.TooShort.{TooShort}
 use Rattle.leamugi_numbers.specs.declared.Numbers.{Numbers}
 use Rattle.leamugi_numbers.specs.Numbers.{numbered, five, btf_of}
 use Rattle.leamugi_numbers.specs.Endings.{said_numbers}
@@ -17,13 +16,13 @@ abbrev pub lent_read : {X Y Z : Type 0} → Both (Bor (List ℕ)) X → Both (Bo
 lent_read bytes table read = tab_view bytes.entry.now table.entry.now (btf_of read.entry.now)
 
 -- How many bytes a report takes, written or not
-abbrev pub length_of : Reported → ℕ
-length_of (Written n) = n
-length_of (Needed n) = n
+abbrev pub length_of : Result ℕ TooShort → ℕ
+length_of (Ok n) = n
+length_of (Err s) = s.needed
 
 -- The report's length in the fourth place
 abbrev pub reported_numbers : Numbers → ℕ → Numbers
-reported_numbers n long = numbered n.number n.a n.b n.c long 0
+reported_numbers n long = numbered n.number (get_or n.beside 0 0) (get_or n.beside 1 0) (get_or n.beside 2 0) long 0
 
 -- The report of a call on BTFs that were read before
 abbrev pub report_of : View → View → List ℕ → ℕ → List ℕ → List ℕ

@@ -16,7 +16,7 @@ ghost use Rattle.leamugi.specs.Calls.{lent_read, reported_five, length_of, repor
 use btf_accept::read;
 use btf_view::Types;
 use call_records::relocate_read;
-use call_report::{Reported, report};
+use call_report::{TooShort, report};
 use leamugi_numbers::{
     Numbers, btf_from, ending_numbers, entry_numbers, put_five, reading_numbers, said_numbers,
     type_numbers,
@@ -112,19 +112,18 @@ pub extern "C" fn leamugi_relocate_read(
         section,
         records,
     );
-    let ending = s.ending;
-    let ended = ending_numbers(s.applied, ending);
+    let ended = ending_numbers(s.applied, s.ending);
     put_five(said, ended);
     ended.number
 }
 
 // How many bytes a report takes.
-fn report_length(reported: Reported) -> u64
+fn report_length(reported: Result<u64, TooShort>) -> u64
     ensures { result ≡ length_of reported }
 {
     match reported {
-        Reported::Written(n) => n,
-        Reported::Needed(n) => n,
+        Ok(written) => written,
+        Err(short) => short.needed,
     }
 }
 
@@ -132,7 +131,8 @@ fn report_length(reported: Reported) -> u64
 fn with_report(n: Numbers, long: u64) -> Numbers
     ensures { result ≡ reported_numbers n long }
 {
-    said_numbers(n.number, n.a, n.b, n.c, long, 0)
+    let [a, b, c, _, _] = n.beside;
+    said_numbers(n.number, a, b, c, long, 0)
 }
 
 // The same, with the report of section 9 into a lent buffer; nothing is written to it where it is too short. Says the
@@ -163,8 +163,7 @@ pub extern "C" fn leamugi_relocate_reported(
     let l = read_before(local, ltable, lread);
     let t = read_before(target, ttable, tread);
     let s = relocate_read(&l, &t, insns, section, records);
-    let ending = s.ending;
-    let n = ending_numbers(s.applied, ending);
+    let n = ending_numbers(s.applied, s.ending);
     let long = report_length(report(&l, &t, section, records, s, out));
     put_five(said, with_report(n, long));
     n.number

@@ -4,16 +4,13 @@ use mathlib.Core.List.{List}
 use mathlib.Core.Path.{◌≡◌, refl}
 use mathlib.Core.Bool.{Bool, true, false, cond}
 use lib.Dec.{ltb}
-use lib.ListN.{set}
-use lib.Seq.{sets}
 use Rattle.btf_accept.specs.declared.Btf.{Btf}
 use Rattle.btf_accept.specs.declared.Reading.TheVariants.{Read, TooShort}
 use Rattle.btf_accept.specs.declared.Whole.{Whole}
 use Rattle.btf_accept.specs.declared.Whole.TheVariants.{Accepted, Faulty, Over}
 use Rattle.btf_accept.specs.Accept.{accepted}
 use Rattle.btf_accept.specs.Table.{roomy, decode}
-use Rattle.leamugi_numbers.specs.declared.Numbers.{Numbers}
-use Rattle.leamugi_numbers.specs.Numbers.{numbered, five, read_numbers, verdict}
+use Rattle.leamugi_numbers.specs.Numbers.{numbered, read_numbers, verdict}
 
 -- A reading says just that
 pub reading_says : (s : List ℕ) (room : ℕ) → read_numbers (decode s room) ≡ verdict room (accepted s)
@@ -28,8 +25,3 @@ reading_says s room = go (accepted s)
     go (Accepted b) = fit b (ltb b.last room)
     go (Faulty i) = refl
     go Over = refl
-
--- Five stores, one after the other
-pub stored : (xs : List ℕ) {l m n o p : List ℕ} (v : Numbers) → l ≡ set xs 0 v.a → m ≡ set l 1 v.b → n ≡ set m 2 v.c → o ≡ set n 3 v.d
-    → p ≡ set o 4 v.e → p ≡ sets xs 0 (five v)
-stored xs v e1 e2 e3 e4 e5 = rw (e5, e4, e3, e2, e1)

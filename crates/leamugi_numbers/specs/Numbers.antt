@@ -11,11 +11,11 @@ use Rattle.leamugi_numbers.specs.declared.Numbers.{Numbers}
 
 -- A number, and five beside it
 abbrev pub numbered : ℕ → ℕ → ℕ → ℕ → ℕ → ℕ → Numbers
-numbered number a b c d e = record { number = number; a = a; b = b; c = c; d = d; e = e }
+numbered number a b c d e = record { number = number; beside = a ∷ b ∷ c ∷ d ∷ e ∷ [] }
 
 -- The five
 abbrev pub five : Numbers → List ℕ
-five n = n.a ∷ n.b ∷ n.c ∷ n.d ∷ n.e ∷ []
+five n = n.beside
 
 -- A reading: where types and strings begin, how long they are, and the last id; the id of the first fault; nothing; the entries needed
 unfoldable pub read_numbers : Reading → Numbers

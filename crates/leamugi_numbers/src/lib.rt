@@ -12,18 +12,16 @@ ghost use Rattle.leamugi_numbers.specs.Endings.{refusal_numbers, ending_numbers}
 use btf_accept::{Btf, Place, Reading};
 use btf_view::Types;
 use rules::{Ending, Refusal, Which};
+
 // An answer's number and the five beside it.
 #[derive(Clone, Copy)]
 pub struct Numbers {
     pub number: u32,
-    pub a: u64,
-    pub b: u64,
-    pub c: u64,
-    pub d: u64,
-    pub e: u64,
+    pub beside: [u64; 5],
 }
 
-// One number of what is said back, where there is room for it.
+// One number of what is said back, where there is room for it. Not by `get_mut`, whose contract says nothing of what the slice
+// ends as.
 fn put_number(said: &mut [u64], at: usize, n: u64)
     ensures { said.new ≡ set said.old at n }
 {
@@ -36,27 +34,22 @@ fn put_number(said: &mut [u64], at: usize, n: u64)
 pub fn put_five(said: &mut [u64], n: Numbers)
     ensures { said.new ≡ sets said.old 0 (five n) }
 {
-    put_number(said, 0, n.a);
-    put_number(said, 1, n.b);
-    put_number(said, 2, n.c);
-    put_number(said, 3, n.d);
-    put_number(said, 4, n.e);
+    for (at, number) in n.beside.iter().enumerate() {
+        put_number(said, at, *number);
+    }
 }
 
 pub fn said_numbers(number: u32, a: u64, b: u64, c: u64, d: u64, e: u64) -> Numbers
     ensures { result ≡ numbered number a b c d e }
 {
     Numbers {
-        number: number,
-        a: a,
-        b: b,
-        c: c,
-        d: d,
-        e: e,
+        number,
+        beside: [a, b, c, d, e],
     }
 }
 
-// What a reading says.
+// What a reading says. A function and no `From`, as for a type, an entry and an ending, which need more than one value.
+#[tactic(auto, unfolding(crate::specs::Numbers::read_numbers))]
 pub fn reading_numbers(answer: Reading) -> Numbers
     ensures { result ≡ read_numbers answer }
 {
@@ -83,10 +76,11 @@ pub fn reading_numbers(answer: Reading) -> Numbers
 fn number_at(said: &[u64], at: usize) -> u64
     ensures { result ≡ get_or said.now at 0 }
 {
-    if at < said.len() { said[at] } else { 0 }
+    said.get(at).copied().unwrap_or(0)
 }
 
 // The BTF that the five numbers of a reading stand for.
+#[tactic(auto, unfolding(crate::specs::Numbers::btf_of))]
 pub fn btf_from(said: &[u64]) -> Btf
     ensures { result ≡ btf_of said.now }
 {
@@ -112,6 +106,7 @@ fn name_length(types: &Types, name: u32) -> u64
 }
 
 // What stands at an id.
+#[tactic(auto, unfolding(crate::specs::Numbers::type_numbers))]
 pub fn type_numbers(types: &Types, id: u32) -> Numbers
     ensures { result ≡ type_numbers (lent types.now) id }
 {
@@ -132,6 +127,7 @@ pub fn type_numbers(types: &Types, id: u32) -> Numbers
 }
 
 // The k-th entry of what stands at an id.
+#[tactic(auto, unfolding(crate::specs::Numbers::entry_numbers))]
 pub fn entry_numbers(types: &Types, id: u32, k: u32) -> Numbers
     ensures { result ≡ entry_numbers (lent types.now) id k }
 {
@@ -149,6 +145,7 @@ pub fn entry_numbers(types: &Types, id: u32, k: u32) -> Numbers
 }
 
 // Why a record was refused, with what document 01 returns beside the number.
+#[tactic(auto, unfolding(crate::specs::Endings::refusal_numbers, rules::specs::Refusal::returned))]
 fn refusal_numbers(applied: u64, at: u64, why: Refusal) -> Numbers
     ensures { result ≡ refusal_numbers applied at why }
 {
@@ -170,6 +167,7 @@ fn refusal_numbers(applied: u64, at: u64, why: Refusal) -> Numbers
     }
 }
 
+// No `From`: the number is the definition `named`'s, which a conversion would not name.
 fn which_number(which: Which) -> u64
     ensures { result ≡ named which }
 {
@@ -180,6 +178,7 @@ fn which_number(which: Which) -> u64
 }
 
 // How a call ended.
+#[tactic(auto, unfolding(crate::specs::Endings::ending_numbers, crate::specs::Endings::refusal_numbers, rules::specs::Call::ending_said))]
 pub fn ending_numbers(applied: u64, ending: Ending) -> Numbers
     ensures { result ≡ ending_numbers applied ending }
 {

@@ -1,22 +1,19 @@
 -- What a candidate gives, by what the record accesses.
-use Rattle.std.specs.Prelude.{ℕ, cond, List, eqb}
+use Rattle.std.specs.Prelude.{ℕ, cond, List, eqb, Option, Some}
 use Rattle.btf_kinds.specs.declared.Entry.{Entry}
 use Rattle.btf_kinds.specs.Types.{Ty}
 use Rattle.btf_view.specs.View.{View}
 use Rattle.rules.specs.declared.Accessor.{Accessor}
 use Rattle.rules.specs.declared.Value.{Value}
-use Rattle.rules.specs.declared.Worth.{Worth}
-use Rattle.rules.specs.declared.Worth.TheVariants.{Known}
-use Rattle.rules.specs.declared.Event.{Event}
 use Rattle.rules.specs.Kinds.{enum_exists}
 use Rattle.rules.specs.Refusal.{Reply}
 use Rattle.rules.specs.Types.{resolve, types_compatible}
 use Rattle.rules.specs.Value.{plain, variant_value, type_value}
-use Rattle.rules.specs.Matching.{type_event, enum_event_at, field_event, field_match}
+use Rattle.rules.specs.Matching.{type_event, enum_event_at, field_event, field_match, Event}
 
 -- What the variant e of the enum t is worth to a record of kind k
-abbrev pub variant_worth : ℕ → Ty → Entry → Worth
-variant_worth k t e = Known (plain (cond (eqb k enum_exists) 1 (variant_value t e)))
+abbrev pub variant_worth : ℕ → Ty → Entry → Option Value
+variant_worth k t e = Some (plain (cond (eqb k enum_exists) 1 (variant_value t e)))
 
 -- What a candidate gives to a record of kind k on the local type id as a whole
 unfoldable pub type_events : View → View → ℕ → ℕ → ℕ → Event

@@ -1,130 +1,126 @@
 // What one candidate gives: to a type as a whole, to a variant, to a path of fields.
 #![tactic(auto)]
 
-ghost use Rattle.std.specs.Prelude.{◌≡◌, ◌≤◌, cond, leb, take};
+ghost use Rattle.std.specs.Prelude.{◌≡◌, Ok, Some, take};
 ghost use Rattle.btf_view.specs.Lent.{lent};
-ghost use Rattle.value_member.specs.Replies.{reply_of};
 ghost use Rattle.rules.specs.Matching.{worth, field_match, field_event, origin as nowhereYet};
-ghost use Rattle.rules.specs.declared.Search.TheVariants.{Found};
 ghost use Rattle.match_candidate.specs.Events.{variant_worth, type_events};
 
 use btf_kinds::Entry;
 use btf_view::Types;
 use match_follow::path_step;
-use rules::{Accessor, Compat, ENUM_VARIANT_EXISTS, Event, Record, Refusal, Search, Target, Worth};
+use rules::{Accessor, ENUM_VARIANT_EXISTS, Match, Record, Refusal, Target, Value};
 use types_compat::types_are_compatible;
 use value_match::{field_value, type_value, variant_value};
-use value_member::{Valued, plain_value};
+use value_member::plain_value;
+
+// The steps of a local path: an access string has no more parts.
+const MOST_STEPS: usize = 64;
 
 // A value that must be there, of a type that matches at bit 0.
-fn worth_event(v: Valued) -> Event
-    ensures { result ≡ worth (reply_of v) }
+fn worth_event(v: Result<Value, Refusal>) -> Result<Option<Match>, Refusal>
+    ensures { result ≡ worth v }
 {
-    match v {
-        Valued::Known(w) => Event::Matched(0, Worth::Known(w)),
-        Valued::Refused(r) => Event::Bad(r),
-    }
+    let value = v?;
+    Ok(Some(Match {
+        bits: 0,
+        value: Some(value),
+    }))
 }
 
 // What the target's type id gives, as a whole, to a record.
-pub fn type_event(local: &Types, target: &Types, relo: Record, id: u32) -> Event
+#[tactic(auto, unfolding(crate::specs::Events::type_events))]
+pub fn type_event(
+    local: &Types,
+    target: &Types,
+    relo: Record,
+    id: u32,
+) -> Result<Option<Match>, Refusal>
     ensures { result ≡ type_events (lent local.now) (lent target.now) relo.kind relo.typ id }
 {
-    let fit = types_are_compatible(local, target, relo.typ, id);
-    match fit {
-        Compat::Compatible => worth_event(type_value(target, relo.kind, id)),
-        Compat::Different => Event::Nothing,
-        Compat::Broken => Event::Bad(Refusal::Unresolved),
-        Compat::Beyond => Event::Bad(Refusal::TooDeep),
+    if types_are_compatible(local, target, relo.typ, id)? {
+        worth_event(type_value(target, relo.kind, id))
+    } else {
+        Ok(None)
     }
 }
 
 // A variant of the target's enum id: that it exists, or its value.
-pub fn variant_worth(target: &Types, kind: u32, id: u32, found: Entry) -> Worth
+pub fn variant_worth(target: &Types, kind: u32, id: u32, found: Entry) -> Option<Value>
     ensures { result ≡ variant_worth kind ((lent target.now).typ id) found }
 {
-    if kind == ENUM_VARIANT_EXISTS {
-        return Worth::Known(plain_value(1));
-    }
-    Worth::Known(plain_value(variant_value(target, id, found)))
+    let number = if kind == ENUM_VARIANT_EXISTS {
+        1
+    } else {
+        variant_value(target, id, found)
+    };
+    Some(plain_value(number))
 }
 
 // Before the first index.
 fn origin() -> Target
     ensures { result ≡ nowhereYet }
 {
-    let last = Accessor {
-        typ: 0,
-        index: 0,
-        named: false,
-    };
     Target {
         typ: 0,
-        last: last,
+        last: Accessor::default(),
         bits: 0,
         parts: 0,
     }
 }
 
 // A path that leads to a place matches there, once the local value is there; the target's need not be.
-fn place_event(target: &Types, kind: u32, mine: Valued, place: Target) -> Event
-    ensures { result ≡ field_event (lent target.now).typ kind (reply_of mine) (Found place) }
+fn place_event(
+    target: &Types,
+    kind: u32,
+    mine: Result<Value, Refusal>,
+    place: Target,
+) -> Result<Option<Match>, Refusal>
+    ensures { result ≡ field_event (lent target.now).typ kind mine (Ok (Some place)) }
 {
-    match mine {
-        Valued::Refused(r) => Event::Bad(r),
-        Valued::Known(_) => {
-            let last = place.last;
-            let theirs = field_value(target, kind, last, place.bits);
-            match theirs {
-                Valued::Known(v) => Event::Matched(place.bits, Worth::Known(v)),
-                Valued::Refused(_) => Event::Matched(place.bits, Worth::Unknown),
-            }
-        }
-    }
+    mine?;
+    let theirs = field_value(target, kind, place.last, place.bits);
+    Ok(Some(Match {
+        bits: place.bits,
+        value: theirs.ok(),
+    }))
 }
 
-// How many of a table's 64 steps a count takes.
-fn steps_in(count: usize) -> usize
-    ensures { (result ≡ cond (leb count 64) count 64) × (result ≤ 64) }
-{
-    if count <= 64 {
-        return count;
-    }
-    64
-}
-
-// The first `count` steps of a local path, followed in candidate id: left once a step finds nothing or is refused.
+// A local path, followed in candidate id: left once a step finds nothing or is refused. An access string has at most 64 parts;
+// of a longer list the first 64 steps are followed, so that the target's parts, up to 33 more with each, fit in 32 bits.
 pub fn followed(
     local: &Types,
     target: &Types,
-    steps: [Accessor; 64],
-    count: usize,
+    steps: &[Accessor],
     id: u32,
-) -> Search
-    ensures { result ≡ field_match (lent local.now) (lent target.now) (take count steps) id }
+) -> Result<Option<Target>, Refusal>
+    ensures { result ≡ field_match (lent local.now) (lent target.now) (take 64 steps.now) id }
 {
-    if count == 0 {
-        return Search::Missing;
+    if steps.is_empty() {
+        return Ok(None);
     }
+    let path = &steps[..steps.len().min(MOST_STEPS)];
     let mut place = origin();
-    for k in 0..steps_in(count) {
-        let own = steps[k];
-        let step = path_step(local, target, id, place, own, k);
-        let Search::Found(s) = step else {
-            return step;
+    for (k, own) in path.iter().enumerate() {
+        let Some(next) = path_step(local, target, id, place, *own, k)? else {
+            return Ok(None);
         };
-        place = s;
+        place = next;
     }
-    Search::Found(place)
+    Ok(Some(place))
 }
 
 // What a candidate gives where the local path was followed.
-pub fn field_event(target: &Types, kind: u32, mine: Valued, found: Search) -> Event
-    ensures { result ≡ field_event (lent target.now).typ kind (reply_of mine) found }
+pub fn field_event(
+    target: &Types,
+    kind: u32,
+    mine: Result<Value, Refusal>,
+    found: Result<Option<Target>, Refusal>,
+) -> Result<Option<Match>, Refusal>
+    ensures { result ≡ field_event (lent target.now).typ kind mine found }
 {
-    match found {
-        Search::Missing => Event::Nothing,
-        Search::Failed(r) => Event::Bad(r),
-        Search::Found(place) => place_event(target, kind, mine, place),
-    }
+    let Some(place) = found? else {
+        return Ok(None);
+    };
+    place_event(target, kind, mine, place)
 }

@@ -6,154 +6,143 @@ use mathlib.Core.Bool.{Bool, true, false, cond}
 use mathlib.Core.List.{List}
 use native.Mathlib.Omega.{arith}
 use native.Mathlib.Numerals.{add-one}
+use Rattle.std.specs.Prelude.{Option, Some, None, Ok, Err}
 use Rattle.btf_view.specs.View.{View}
-use Rattle.rules.specs.declared.Refusal.{Refusal}
-use Rattle.rules.specs.declared.Worth.{Worth}
-use Rattle.rules.specs.declared.Event.{Event}
-use Rattle.rules.specs.declared.Event.TheVariants.{Nothing, Matched, Bad}
-use Rattle.rules.specs.declared.Matches.{Matches}
-use Rattle.rules.specs.declared.Matches.TheVariants.{Unmatched, Kept, Halted}
-use Rattle.rules.specs.Record.{agrees, first_of, turn, over}
 use Rattle.match_scan.specs.Candidates.{candidate_by, first_from}
-use Rattle.match_fold.specs.Folded.{among, conflicts}
-use Rattle.match_fold.proofs.Events.{no-candidate, a_candidate}
+use Rattle.rules.specs.declared.Refusal.{Refusal}
+use Rattle.rules.specs.declared.Match.{Match}
+use Rattle.rules.specs.declared.Kept.{Kept}
+use Rattle.rules.specs.Matching.{Event}
+use Rattle.rules.specs.Record.{agrees, first_of, keep, turn, over, Matches}
+use Rattle.match_fold.specs.Folded.{among, folded_by, conflicts}
 
--- A refusal has ended the fold.
-abbrev halted : Matches → Bool
-halted Unmatched = false
-halted (Kept b v c n) = false
-halted (Halted r) = true
-
-turn-nothing : (s : Matches) (i : ℕ) → turn s i Nothing ≡ s
-unfolding turn
-turn-nothing Unmatched i = refl
-turn-nothing (Kept b v c n) i = refl
-turn-nothing (Halted r) i = refl
-
-turn-bad : (s : Matches) (i : ℕ) (r : Refusal) → halted s ≡ false → turn s i (Bad r) ≡ Halted r
-unfolding turn
-turn-bad Unmatched i r h = refl
-turn-bad (Kept b v c n) i r h = refl
-turn-bad (Halted q) i r h = cc
-
-turn_goes : (s : Matches) (i b : ℕ) (v : Worth) → halted s ≡ false → halted (turn s i (Matched b v)) ≡ false
-unfolding turn
-turn_goes Unmatched i b v h = refl
-turn_goes (Halted r) i b v h = h
-turn_goes (Kept b v c n) i b' v' h = go (agrees b v b' v')
+keep-few : (s : Option Kept) (i : ℕ) (m : Match) → conflicts (Some (keep s i m)) ≤ conflicts s + 1
+keep-few None i m = omega arith
+keep-few (Some k) i m = go (agrees k.first m)
   where
-    go : (t : Bool) → halted (cond t (Kept b v c n) (Kept b v (first_of n c i) (suc n))) ≡ false
-    go true = refl
-    go false = refl
-
-turn-few : (s : Matches) (i b : ℕ) (v : Worth) → conflicts (turn s i (Matched b v)) ≤ conflicts s + 1
-unfolding turn
-turn-few Unmatched i b v = omega arith
-turn-few (Halted r) i b v = omega arith
-turn-few (Kept b v c n) i b' v' = go (agrees b v b' v')
-  where
-    go : (t : Bool) → conflicts (cond t (Kept b v c n) (Kept b v (first_of n c i) (suc n))) ≤ n + 1
+    go : (t : Bool) → conflicts (Some (cond t k (record { first = k.first; conflict = first_of k.count k.conflict i; count = suc k.count }))) ≤ k.count + 1
     go true = omega arith
     go false = omega arith
 
-over-halted : (f : ℕ → Event) (r : Refusal) (i n : ℕ) → over f (Halted r) i n ≡ Halted r
+over-refused : (f : ℕ → Event) (r : Refusal) (i n : ℕ) → over f (Err r) i n ≡ Err r
 unfolding over turn
-over-halted f r i zero = refl
-over-halted f r i (suc n) = over-halted f r (suc i) n
+over-refused f r i zero = refl
+over-refused f r i (suc n) = over-refused f r (suc i) n
 
--- The first candidate of n ids from i on, as a fold goes: r is a candidate unless all n are none, and what is before it gives nothing.
-pub record First (f g : ℕ → Event) (i n r : ℕ) : Type 0 where
-  pub low : i ≤ r
-  pub high : r ≤ i + n
-  pub is : r < i + n → f r ≡ g r
-  pub skip : (s : Matches) → over f s i n ≡ over f s r (i + n - r)
+-- One id: nothing, a match, or a refusal
+module _ (f : ℕ → Event) (s : Option Kept) (i n : ℕ) where
+  over-nothing : f i ≡ Ok None → over f (Ok s) i (suc n) ≡ over f (Ok s) (suc i) n
+  unfolding over turn
+  over-nothing e = rw e
+
+  over-match : {m : Match} → f i ≡ Ok (Some m) → over f (Ok s) i (suc n) ≡ over f (Ok (Some (keep s i m))) (suc i) n
+  unfolding over turn
+  over-match e = rw e
+
+  over-bad : {r : Refusal} → f i ≡ Err r → over f (Ok s) i (suc n) ≡ Err r
+  unfolding over turn
+  over-bad {r} e = rw e (over-refused f r (suc i) n)
+
+-- What the search among n ids from i on tells of a fold: all of them give nothing, or those before the one found do
+pub record Found (f g : ℕ → Event) (i n id : ℕ) : Type 0 where
+  pub low : i ≤ id
+  pub high : id < i + n
+  pub is : f id ≡ g id
+  pub skip : (s : Option Kept) → over f (Ok s) i n ≡ over f (Ok s) id (i + n - id)
+
+abbrev pub Told : (ℕ → Event) → (ℕ → Event) → ℕ → ℕ → Option ℕ → Type 0
+Told f g i n None = (s : Option Kept) → over f (Ok s) i n ≡ Ok s
+Told f g i n (Some id) = Found f g i n id
 
 module _ (T : View) (own : ℕ) (name : List ℕ) (g : ℕ → Event) where
-  first-none : (i : ℕ) → First (among T own name g) g i 0 i
-  first-none i = let e : i + 0 - i ≡ 0 = omega arith in record { low = omega arith; high = omega arith; is = λ h. absurd (omega arith); skip = λ s. rw e }
+  candidate : (i : ℕ) → candidate_by own name T i ≡ true → among T own name g i ≡ g i
+  unfolding among
+  candidate i c = rw c
 
-  first-here : (i n : ℕ) → candidate_by own name T i ≡ true → First (among T own name g) g i (suc n) i
-  first-here i n c =
-      let e : i + suc n - i ≡ suc n = omega arith in
-      record { low = omega arith; high = omega arith; is = λ h. a_candidate T own name g i (sym c) refl; skip = λ s. rw e }
+  none : (i : ℕ) → candidate_by own name T i ≡ false → among T own name g i ≡ Ok None
+  unfolding among
+  none i c = rw c
 
-  first-later : (i n : ℕ) {r : ℕ} → candidate_by own name T i ≡ false → First (among T own name g) g (suc i) n r → First (among T own name g) g i (suc n) r
-  unfolding over
-  first-later i n {r} c v =
-      let e : i + suc n - r ≡ suc i + n - r = omega arith in
+  later : (i n : ℕ) (o : Option ℕ) → candidate_by own name T i ≡ false → Told (among T own name g) g (suc i) n o → Told (among T own name g) g i (suc n) o
+  later i n None c t = λ s. over-nothing (among T own name g) s i n (none i c) ∙ t s
+  later i n (Some id) c t =
+      let e : i + suc n - id ≡ suc i + n - id = omega arith in
       record {
-        low = omega (arith, v.low);
-        high = omega (arith, v.high);
-        is = λ h. v.is (omega arith);
-        skip = λ s. rw (no-candidate T own name g i (sym c) refl, turn-nothing s i, e) (v.skip s);
+        low = omega (arith, t.low);
+        high = omega (arith, t.high);
+        is = t.is;
+        skip = λ s. over-nothing (among T own name g) s i n (none i c) ∙ t.skip s ∙ rw e;
       }
 
-  pub first : (i n : ℕ) → First (among T own name g) g i n (first_from T own name i n)
-  unfolding first_from
-  first i zero = first-none i
-  first i (suc n) = go (candidate_by own name T i) refl (first (suc i) n)
+  pub told : (i n : ℕ) → Told (among T own name g) g i n (first_from T own name i n)
+  unfolding first_from over
+  told i zero = λ s. refl
+  told i (suc n) = go (candidate_by own name T i) refl (told (suc i) n)
     where
-      go : (t : Bool) → candidate_by own name T i ≡ t → First (among T own name g) g (suc i) n (first_from T own name (suc i) n)
-          → First (among T own name g) g i (suc n) (cond t i (first_from T own name (suc i) n))
-      go true c v = first-here i n c
-      go false c v = first-later i n c v
+      here : candidate_by own name T i ≡ true → Found (among T own name g) g i (suc n) i
+      here c =
+          let e : i + suc n - i ≡ suc n = omega arith in
+          record { low = omega arith; high = omega arith; is = candidate i c; skip = λ s. rw e }
 
--- ids 0 to `last`; i is a candidate or past the last, `end` what the whole fold comes to
-pub record Folding (T : View) (own : ℕ) (name : List ℕ) (g : ℕ → Event) (last : ℕ) (end : Matches) (s : Matches) (i : ℕ) : Type 0 where
-  pub fits : last < 4294967296
+      go : (t : Bool) → candidate_by own name T i ≡ t → Told (among T own name g) g (suc i) n (first_from T own name (suc i) n)
+          → Told (among T own name g) g i (suc n) (cond t (Some i) (first_from T own name (suc i) n))
+      go true c v = here c
+      go false c v = later i n (first_from T own name (suc i) n) c v
+
+-- ids 0 to `last`, of which those before i are done; `end` is what the whole fold comes to
+pub record Folding (T : View) (own : ℕ) (name : List ℕ) (g : ℕ → Event) (last : ℕ) (end : Matches) (s : Option Kept) (i : ℕ) : Type 0 where
   pub high : i ≤ suc last
-  pub going : halted s ≡ false
   pub few : conflicts s ≤ i
-  pub is : i ≤ last → among T own name g i ≡ g i
-  pub rest : over (among T own name g) s i (suc last - i) ≡ end
+  pub rest : over (among T own name g) (Ok s) i (suc last - i) ≡ end
 
-module _ (T : View) (own : ℕ) (name : List ℕ) (g : ℕ → Event) (last : ℕ) {end : Matches} where
-  -- From i on, at the first candidate
-  reached : {s : Matches} (i : ℕ) → last < 4294967296 → i ≤ suc last → halted s ≡ false → conflicts s ≤ i → over (among T own name g) s i (suc last - i) ≡ end
-      → Folding T own name g last end s (first_from T own name i (suc last - i))
-  reached {s} i h l o c e =
-      let z : i + (suc last - i) ≡ suc last = omega arith in
-      let v = first T own name g i (suc last - i) in
-      record {
-        fits = h;
-        high = omega (arith, v.high);
-        going = o;
-        few = omega (arith, v.low);
-        is = λ b. v.is (omega arith);
-        rest = sym (rw z at (v.skip s)) ∙ e;
-      }
+pub folding-first : (T : View) (own : ℕ) (name : List ℕ) (g : ℕ → Event) → Folding T own name g T.count (folded_by T own name g) None 0
+unfolding folded_by
+folding-first T own name g =
+    let z : suc T.count - 0 ≡ suc T.count = omega arith in
+    record { high = omega arith; few = omega arith; rest = rw z }
 
-  pub folding-first : {r : ℕ} → last < 4294967296 → over (among T own name g) Unmatched 0 (suc last) ≡ end → r ≡ first_from T own name 0 (suc last - 0) → Folding T own name g last end Unmatched r
-  folding-first h e p =
-      let z : suc last - 0 ≡ suc last = omega arith in
-      rw p (reached 0 h (omega arith) refl (omega arith) (ap (over (among T own name g) Unmatched 0) z ∙ e))
+-- The candidate id is found, and those before it are done.
+pub record Standing (T : View) (own : ℕ) (name : List ℕ) (g : ℕ → Event) (last : ℕ) (end : Matches) (s : Option Kept) (id : ℕ) : Type 0 where
+  pub upto : id ≤ last
+  pub few : conflicts s ≤ id
+  pub is : among T own name g id ≡ g id
+  pub left : over (among T own name g) (Ok s) id (suc (last - id)) ≡ end
 
-module _ {T : View} {own : ℕ} {name : List ℕ} {g : ℕ → Event} {last : ℕ} {end s : Matches} {i : ℕ} (v : Folding T own name g last end s i) where
-  pub folding-over : last < i → s ≡ end
-  unfolding over
-  folding-over h = let z : suc last - i ≡ 0 = omega arith in rw z at v.rest
+module _ {T : View} {own : ℕ} {name : List ℕ} {g : ℕ → Event} {last : ℕ} {end : Matches} {s : Option Kept} {i : ℕ} (v : Folding T own name g last end s i) where
+  tells : {o : Option ℕ} → o ≡ first_from T own name i (suc last - i) → Told (among T own name g) g i (suc last - i) o
+  tells p = rw p (told T own name g i (suc last - i))
 
-  module _ (h : i ≤ last) where
-    turned : {e : Event} → g i ≡ e → over (among T own name g) (turn s i e) (suc i) (last - i) ≡ end
-    unfolding over
-    turned e =
-        let less : suc last - i ≡ suc (last - i) = omega arith in
-        rw (← e, ← (v.is h)) (sym (ap (over (among T own name g) s i) less) ∙ v.rest)
+  pub folding-over : {o : Option ℕ} → o ≡ first_from T own name i (suc last - i) → o ≡ None → Ok s ≡ end
+  folding-over p q = sym (tells (sym q ∙ p) s) ∙ v.rest
 
-    module _ {r : ℕ} (q : r ≡ first_from T own name (i + 1) (suc last - (i + 1))) where
-      next : {t : Matches} → halted t ≡ false → conflicts t ≤ i + 1 → over (among T own name g) t (suc i) (last - i) ≡ end → Folding T own name g last end t r
-      next {t} o c e =
-          let less : suc last - (i + 1) ≡ last - i = omega arith in
-          rw q (reached T own name g last (i + 1) v.fits (omega arith) o c (rw (less, add-one) e))
+  module _ {o : Option ℕ} {id : ℕ} (p : o ≡ first_from T own name i (suc last - i)) (q : o ≡ Some id) where
+    found : Found (among T own name g) g i (suc last - i) id
+    found = tells (sym q ∙ p)
 
-      pub less : suc last - r < suc last - i
-      less = rw q (omega (arith, (first T own name g (i + 1) (suc last - (i + 1))).low))
+    pub less : suc last - (id + 1) < suc last - i
+    less = omega (arith, found.low, found.high, v.high)
 
-      pub pass_next : g i ≡ Nothing → Folding T own name g last end s r
-      pass_next p = next v.going (omega (arith, v.few)) (rw turn-nothing at (turned p))
+    pub standing : Standing T own name g last end s id
+    standing =
+        let e : i + (suc last - i) - id ≡ suc (last - id) = omega (arith, found.high, v.high) in
+        record {
+          upto = omega (arith, found.high, v.high);
+          few = omega (arith, v.few, found.low);
+          is = found.is;
+          left = rw e at (sym (found.skip s)) ∙ v.rest;
+        }
 
-      pub keep_next : {b : ℕ} {w : Worth} → g i ≡ Matched b w → {t : Matches} → t ≡ turn s i (Matched b w) → Folding T own name g last end t r
-      keep_next {b} {w} p k = rw k (next (turn_goes s i b w v.going) (omega (arith, turn-few s i b w, v.few)) (turned p))
+module _ {T : View} {own : ℕ} {name : List ℕ} {g : ℕ → Event} {last : ℕ} {end : Matches} {s : Option Kept} {id : ℕ} (v : Standing T own name g last end s id) where
+  next : {t : Option Kept} → conflicts t ≤ id + 1 → over (among T own name g) (Ok t) (suc id) (last - id) ≡ end → Folding T own name g last end t (id + 1)
+  next {t} c e =
+      let z : suc last - (id + 1) ≡ last - id = omega arith in
+      record { high = omega (arith, v.upto); few = c; rest = rw (z, add-one id) e }
 
-    pub halt : {r : Refusal} → g i ≡ Bad r → Halted r ≡ end
-    halt {r} p = sym (over-halted (among T own name g) r (suc i) (last - i)) ∙ (rw (turn-bad s i r v.going) at (turned p))
+  pub pass_next : g id ≡ Ok None → Folding T own name g last end s (id + 1)
+  pass_next e = next (omega (arith, v.few)) (sym (over-nothing (among T own name g) s id (last - id) (v.is ∙ e)) ∙ v.left)
+
+  pub keep_next : {m : Match} → g id ≡ Ok (Some m) → {k : Kept} → k ≡ keep s id m → Folding T own name g last end (Some k) (id + 1)
+  keep_next {m} e h = rw h (next (omega (arith, keep-few s id m, v.few)) (sym (over-match (among T own name g) s id (last - id) (v.is ∙ e)) ∙ v.left))
+
+  pub stop : {r : Refusal} → g id ≡ Err r → Err r ≡ end
+  stop e = sym (over-bad (among T own name g) s id (last - id) (v.is ∙ e)) ∙ v.left

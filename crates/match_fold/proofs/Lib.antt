@@ -1,5 +1,4 @@
 pub mod Enums
 pub mod Events
 pub mod Folding
-pub mod Keeping
 pub mod Matches

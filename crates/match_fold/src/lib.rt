@@ -1,99 +1,94 @@
 // What is kept of the candidates' matches, by what the record accesses: all target types, in id order from 0.
 #![tactic(auto)]
 
-ghost use Rattle.std.specs.Prelude.{◌≡◌, ◌+◌, ◌<◌, take};
+ghost use Rattle.std.specs.Prelude.{◌≡◌, ◌+◌, ◌<◌, ◌^◌, take};
 ghost use Rattle.btf_view.specs.Lent.{lent};
-ghost use Rattle.rules.specs.declared.Event.TheVariants.{Matched};
-ghost use Rattle.rules.specs.Record.{agree, agrees, turn};
-ghost use Rattle.value_member.specs.Replies.{reply_of};
 ghost use Rattle.rules.specs.Fields.{nth_entry};
+ghost use Rattle.rules.specs.Record.{agree, agrees, keep, matches};
 ghost use Rattle.match_candidate.specs.Events.{type_events, enum_events, field_events};
 ghost use Rattle.match_fold.specs.Folded.{conflicts, folded};
-ghost use Rattle.access_walk.specs.Replies.{access_of};
+ghost use Rattle.access_walk.specs.Replies.{access_in, access_of};
 ghost use Rattle.match_fold.specs.Matches.{matches_of};
 
-use access_walk::{Accessed, Reach};
+use access_walk::Access;
 use btf_view::Types;
 use match_candidate::{field_event, followed, type_event, variant_worth};
 use match_scan::{next_candidate, type_name};
-use rules::{Accessor, Event, Matches, Record, Refusal, Resolved, Worth};
+use rules::{Accessor, Kept, Match, Record, Refusal, Value};
 use types_chain::{is_enum, resolve_type};
 use types_names::same_named;
-use value_member::Valued;
+
 // Two values conflict only where both are there.
-fn values_agree(first: Worth, other: Worth) -> bool
+fn values_agree(first: Option<Value>, other: Option<Value>) -> bool
     ensures { result ≡ agree first other }
 {
-    match first {
-        Worth::Unknown => true,
-        Worth::Known(v) => match other {
-            Worth::Unknown => true,
-            Worth::Known(w) => v.number == w.number,
-        },
+    match (first, other) {
+        (Some(v), Some(w)) => v.number == w.number,
+        _ => true,
     }
 }
 
 // A match does not conflict with the first one: at the same bits, with no other value.
-fn matches_agree(b: u64, v: Worth, bits: u64, worth: Worth) -> bool
-    ensures { result ≡ agrees b v bits worth }
+fn matches_agree(first: Match, other: Match) -> bool
+    ensures { result ≡ agrees first other }
 {
-    let elsewhere = b != bits;
-    if elsewhere {
-        return false;
-    }
-    values_agree(v, worth)
+    let elsewhere = first.bits != other.bits;
+    !elsewhere && values_agree(first.value, other.value)
 }
 
 // Candidate id matches: the first match is kept, conflicts with it are counted.
-fn keep(kept: Matches, id: u32, bits: u64, worth: Worth) -> Matches
-    requires { conflicts kept + 1 < 18446744073709551616 }
-    ensures { result ≡ turn kept id (Matched bits worth) }
+fn keep(kept: Option<Kept>, id: u32, found: Match) -> Kept
+    requires { conflicts kept + 1 < 2 ^ 64 }
+    ensures { result ≡ keep kept id found }
 {
-    match kept {
-        Matches::Halted(r) => Matches::Halted(r),
-        Matches::Unmatched => Matches::Kept(bits, worth, 0, 0),
-        Matches::Kept(b, v, first, n) => {
-            if matches_agree(b, v, bits, worth) {
-                return Matches::Kept(b, v, first, n);
-            }
-            if n == 0 {
-                return Matches::Kept(b, v, id, 1);
-            }
-            Matches::Kept(b, v, first, n + 1)
-        }
+    let Some(before) = kept else {
+        return Kept {
+            first: found,
+            conflict: 0,
+            count: 0,
+        };
+    };
+    if matches_agree(before.first, found) {
+        return before;
+    }
+    let alone = before.count == 0;
+    let conflict = if alone { id } else { before.conflict };
+    Kept {
+        first: before.first,
+        conflict,
+        count: before.count + 1,
     }
 }
 
 // The matches of a record of a type kind.
-pub fn type_matches(local: &Types, target: &Types, relo: Record) -> Matches
+// A loop of its own: with the event as a closure the three folds would be one, but that the closure over lent types may be
+// called was not proved.
+pub fn type_matches(local: &Types, target: &Types, relo: Record) -> Result<Option<Kept>, Refusal>
     ensures { result ≡ folded (lent local.now) (lent target.now) relo
         (type_events (lent local.now) (lent target.now) relo.kind relo.typ) }
 {
     let own = local.kind_of(relo.typ);
     let name = type_name(local, relo.typ);
-    let mut kept = Matches::Unmatched;
-    let last = target.btf.last;
-    let mut next = next_candidate(target, own, name, 0);
-    while next <= last as u64 {
-        let id = next as u32;
-        next = next_candidate(target, own, name, next + 1);
-        let event = type_event(local, target, relo, id);
-        match event {
-            Event::Nothing => {}
-            Event::Matched(bits, worth) => {
-                kept = keep(kept, id, bits, worth);
-            }
-            Event::Bad(r) => {
-                return Matches::Halted(r);
-            }
+    let mut kept = None;
+    let mut from: u64 = 0;
+    while let Some(id) = next_candidate(target, own, name, from) {
+        if let Some(found) = type_event(local, target, relo, id)? {
+            kept = Some(keep(kept, id, found));
         }
+        from = id as u64 + 1;
     }
-    kept
+    Ok(kept)
 }
 
 // The matches of a record of an enum kind, on the variant `index` of the local enum `of`: a candidate is settled by its first
 // variant of the same name, but for flavours.
-pub fn enum_matches(local: &Types, target: &Types, relo: Record, of: u32, index: u32) -> Matches
+pub fn enum_matches(
+    local: &Types,
+    target: &Types,
+    relo: Record,
+    of: u32,
+    index: u32,
+) -> Result<Option<Kept>, Refusal>
     ensures { result ≡ folded (lent local.now) (lent target.now) relo
         (enum_events (lent target.now) relo.kind ((lent local.now).text (nth_entry ((lent local.now).typ of) index).name)) }
 {
@@ -101,63 +96,67 @@ pub fn enum_matches(local: &Types, target: &Types, relo: Record, of: u32, index:
     let name = type_name(local, relo.typ);
     let asked = local.entry_of(of, index);
     let variant = local.text_of(asked.name);
-    let mut kept = Matches::Unmatched;
-    let last = target.btf.last;
-    let mut next = next_candidate(target, own, name, 0);
-    'candidates: while next <= last as u64 {
-        let id = next as u32;
-        next = next_candidate(target, own, name, next + 1);
-        let Resolved::At(e) = resolve_type(target, id) else {
-            return Matches::Halted(Refusal::Unresolved);
-        };
+    let mut kept = None;
+    let mut from: u64 = 0;
+    // nested, and left by a label: the form that document 01 asks for here
+    'candidates: while let Some(id) = next_candidate(target, own, name, from) {
+        from = id as u64 + 1;
+        let e = resolve_type(target, id)?;
         if !is_enum(target.kind_of(e)) {
             continue 'candidates;
         }
         for k in 0..target.count_of(e) {
             let v = target.entry_of(e, k);
             if same_named(variant, target, v.name) {
-                let worth = variant_worth(target, relo.kind, e, v);
-                kept = keep(kept, id, 0, worth);
+                let value = variant_worth(target, relo.kind, e, v);
+                kept = Some(keep(kept, id, Match { bits: 0, value }));
                 continue 'candidates;
             }
         }
     }
-    kept
+    Ok(kept)
 }
 
-// The matches of a record of a field kind, on the path of the first `count` steps.
+// The matches of a record of a field kind, on the path of these steps, of which the first 64 count.
 pub fn field_matches(
     local: &Types,
     target: &Types,
     relo: Record,
-    steps: [Accessor; 64],
-    count: usize,
-    mine: Valued,
-) -> Matches
+    steps: &[Accessor],
+    mine: Result<Value, Refusal>,
+) -> Result<Option<Kept>, Refusal>
     ensures { result ≡ folded (lent local.now) (lent target.now) relo
-        (field_events (lent local.now) (lent target.now) relo.kind (reply_of mine) (take count steps)) }
+        (field_events (lent local.now) (lent target.now) relo.kind mine (take 64 steps.now)) }
 {
     let own = local.kind_of(relo.typ);
     let name = type_name(local, relo.typ);
-    let mut kept = Matches::Unmatched;
-    let last = target.btf.last;
-    let mut next = next_candidate(target, own, name, 0);
-    while next <= last as u64 {
-        let id = next as u32;
-        next = next_candidate(target, own, name, next + 1);
-        let found = followed(local, target, steps, count, id);
-        let event = field_event(target, relo.kind, mine, found);
-        match event {
-            Event::Nothing => {}
-            Event::Matched(bits, worth) => {
-                kept = keep(kept, id, bits, worth);
-            }
-            Event::Bad(r) => {
-                return Matches::Halted(r);
-            }
+    let mut kept = None;
+    let mut from: u64 = 0;
+    while let Some(id) = next_candidate(target, own, name, from) {
+        let found = followed(local, target, steps, id);
+        if let Some(found) = field_event(target, relo.kind, mine, found)? {
+            kept = Some(keep(kept, id, found));
         }
+        from = id as u64 + 1;
     }
-    kept
+    Ok(kept)
+}
+
+// The matches of a record that accesses this.
+fn accessed_matches(
+    local: &Types,
+    target: &Types,
+    relo: Record,
+    access: &Access,
+    mine: Result<Value, Refusal>,
+) -> Result<Option<Kept>, Refusal>
+    ensures { result ≡ matches (lent local.now) (lent target.now) relo (access_in access.now) mine }
+{
+    match access {
+        Access::Whole => type_matches(local, target, relo),
+        Access::Variant(of, index) => enum_matches(local, target, relo, *of, *index),
+        Access::Path(steps, _) => field_matches(local, target, relo, steps.as_slice(), mine),
+    }
 }
 
 // What is kept of the matches of a record's candidates, given what it accesses and its local value.
@@ -165,19 +164,13 @@ pub fn match_candidates(
     local: &Types,
     target: &Types,
     relo: Record,
-    access: Accessed,
-    mine: Valued,
-) -> Matches
-    ensures { result ≡ matches_of (lent local.now) (lent target.now) relo (access_of access) (reply_of mine) }
+    access: &Result<Access, Refusal>,
+    mine: Result<Value, Refusal>,
+) -> Result<Option<Kept>, Refusal>
+    ensures { result ≡ matches_of (lent local.now) (lent target.now) relo (access_of access.now) mine }
 {
-    let reach = access.reach;
-    match reach {
-        Reach::Refused(r) => Matches::Halted(r),
-        Reach::Whole => type_matches(local, target, relo),
-        Reach::Variant(of, index) => enum_matches(local, target, relo, of, index),
-        Reach::Path(count, _) => {
-            let steps = access.steps;
-            field_matches(local, target, relo, steps, count, mine)
-        }
+    match access {
+        Ok(accessed) => accessed_matches(local, target, relo, accessed, mine),
+        Err(r) => Err(*r),
     }
 }

@@ -6,46 +6,45 @@ use native.Mathlib.Omega.{arith}
 use lib.Dec.{leb, eqb}
 use Rattle.btf_kinds.specs.Types.{Ty}
 use Rattle.btf_view.specs.View.{View}
-use Rattle.rules.specs.declared.Resolved.{Resolved}
-use Rattle.rules.specs.declared.Resolved.TheVariants.{At, Endless}
 use Rattle.rules.specs.declared.Accessor.{Accessor}
 use Rattle.rules.specs.declared.Target.{Target}
-use Rattle.rules.specs.declared.Search.TheVariants.{Missing}
 use Rattle.rules.specs.declared.Refusal.TheVariants.{MaximumNesting}
 use Rattle.btf_kinds.specs.Names.{ARRAY}
 use Rattle.rules.specs.Limits.{max_spec_len, max_levels}
 use Rattle.rules.specs.Fields.{nth_entry}
-use Rattle.rules.specs.Refusal.{Reply, ok, refused, bind}
-use Rattle.rules.specs.Types.{resolve, resolved, fields_compatible}
+use Rattle.rules.specs.Refusal.{Reply, bind}
+use Rattle.rules.specs.Types.{resolve, fields_compatible}
 use Rattle.rules.specs.Access.{element, element_bits}
 use Rattle.rules.specs.Matching.{reached, at_element, target_open, target_element, target_element_at, target_member, target_step}
 use Rattle.match_search.specs.Parts.{part_count}
 use Rattle.match_search.proofs.Parts.{either, search-parts}
 use Rattle.match_follow.specs.Walk.{accessor_step}
+use Rattle.std.specs.Prelude.{Err, None, Ok}
 
 element-parts : (typ : ℕ → Ty) (c : ℕ) (s : Target) (k j : ℕ) → part_count (reached (at_element typ c s k j)) ≤ s.parts + 33
 unfolding at_element
 element-parts typ c s k j = go (eqb s.parts max_spec_len)
   where
-    placed : (x : Reply ℕ) → part_count (reached (bind x (λ b. ok (record { typ = j; last = element j k; bits = b; parts = suc s.parts })))) ≤ s.parts + 33
-    placed (ok b) = omega arith
-    placed (refused r) = omega arith
+    placed : (x : Reply ℕ) → part_count (reached (bind x (λ b. Ok (record { typ = j; last = element j k; bits = b; parts = suc s.parts })))) ≤ s.parts + 33
+    placed (Ok b) = omega arith
+    placed (Err r) = omega arith
 
     go : (b : Bool) → part_count (reached
-        (cond b (refused (MaximumNesting c)) (bind (element_bits typ s.bits k j) (λ b. ok (record { typ = j; last = element j k; bits = b; parts = suc s.parts }))))) ≤ s.parts + 33
+        (cond b (Err (MaximumNesting c))
+        (bind (element_bits typ s.bits k j) (λ b. Ok (record { typ = j; last = element j k; bits = b; parts = suc s.parts }))))) ≤ s.parts + 33
     go true = omega arith
     go false = placed (element_bits typ s.bits k j)
 
-resolved-parts : (typ : ℕ → Ty) (c : ℕ) (s : Target) (k : ℕ) (x : Resolved) → part_count (reached (resolved x (at_element typ c s k))) ≤ s.parts + 33
-resolved-parts typ c s k (At j) = element-parts typ c s k j
-resolved-parts typ c s k Endless = omega arith
+resolved-parts : (typ : ℕ → Ty) (c : ℕ) (s : Target) (k : ℕ) (x : Reply ℕ) → part_count (reached (bind x (at_element typ c s k))) ≤ s.parts + 33
+resolved-parts typ c s k (Ok j) = element-parts typ c s k j
+resolved-parts typ c s k (Err r) = omega arith
 
-array_parts : (typ : ℕ → Ty) (c : ℕ) (s : Target) (k : ℕ) (x : Resolved) → part_count (target_element_at typ c s k x) ≤ s.parts + 33
+array_parts : (typ : ℕ → Ty) (c : ℕ) (s : Target) (k : ℕ) (x : Reply ℕ) → part_count (target_element_at typ c s k x) ≤ s.parts + 33
 unfolding target_element
-array_parts typ c s k Endless = omega arith
-array_parts typ c s k (At j) =
-    either _ (not (eqb (typ j).kind ARRAY)) Missing _ (omega arith)
-    (either _ (not (target_open (typ j) (typ s.last.typ) s.last.index) && leb (typ j).extra k) Missing _ (omega arith)
+array_parts typ c s k (Err r) = omega arith
+array_parts typ c s k (Ok j) =
+    either _ (not (eqb (typ j).kind ARRAY)) (Ok None) _ (omega arith)
+    (either _ (not (target_open (typ j) (typ s.last.typ) s.last.index) && leb (typ j).extra k) (Ok None) _ (omega arith)
     (resolved-parts typ c s k (resolve typ (typ j).ref)))
 
 pub step-parts : (L T : View) (c k : ℕ) (s : Target) (a : Accessor) → part_count (accessor_step L T c k s a) ≤ s.parts + 33

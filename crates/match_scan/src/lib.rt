@@ -18,22 +18,20 @@ fn is_candidate(target: &Types, kind: u32, name: &[u8], id: u32) -> bool
     same_named(name, target, target.name_of(id))
 }
 
-// The first candidate from an id on; the id after the last where there is none. Every id is asked here, in one loop that
-// does nothing else: the folds go from candidate to candidate.
-pub fn next_candidate(target: &Types, kind: u32, name: &[u8], from: u64) -> u64
+// The first candidate from an id on, if there is one. Every id is asked here, in one loop that does nothing else: the folds go
+// from candidate to candidate.
+pub fn next_candidate(target: &Types, kind: u32, name: &[u8], from: u64) -> Option<u32>
     ensures { result ≡ first_from (lent target.now) kind name.now from (suc (lent target.now).count - from) }
 {
     // a copy: no field is loaded anew at each id
     let types = *target;
-    let last = target.btf.last;
-    let mut id = from;
-    while id <= last as u64 {
+    let end = target.btf.last as u64 + 1;
+    for id in from..end {
         if is_candidate(&types, kind, name, id as u32) {
-            return id;
+            return Some(id as u32);
         }
-        id += 1;
     }
-    id
+    None
 }
 
 // The name of the type with an id.

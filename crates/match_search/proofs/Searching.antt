@@ -10,28 +10,27 @@ use lib.ListN.{length, drop, drop_of_length-le}
 use borrow.Author.Tests.{eq-eqb, ne_eqb}
 use Rattle.btf_kinds.specs.declared.Entry.{Entry}
 use Rattle.btf_view.specs.View.{View}
-use Rattle.rules.specs.declared.Resolved.TheVariants.{At, Endless}
-use Rattle.rules.specs.declared.Compat.{Compat}
-use Rattle.rules.specs.declared.Search.{Search}
-use Rattle.rules.specs.declared.Search.TheVariants.{Found, Missing, Failed}
-use Rattle.rules.specs.declared.Refusal.TheVariants.{MaximumNesting, Unresolved, TooDeep}
+use Rattle.rules.specs.declared.Refusal.{Refusal}
+use Rattle.rules.specs.declared.Target.{Target}
+use Rattle.rules.specs.declared.Refusal.TheVariants.{MaximumNesting, TooDeep}
 use Rattle.rules.specs.Kinds.{is_composite}
 use Rattle.rules.specs.Limits.{max_spec_len}
 use Rattle.rules.specs.Fields.{member_bits, nth_entry}
-use Rattle.rules.specs.Types.{resolve, is_empty, same_text, fields_compatible}
-use Rattle.rules.specs.Matching.{grown, or_else, Sought, level, no_level, members_of, search}
+use Rattle.rules.specs.Types.{resolve, is_empty, same_text, fields_compatible, Compat}
+use Rattle.rules.specs.Matching.{grown, or_else, Sought, level, no_level, members_of, search, Search}
 use Rattle.rules.proofs.Turns.{level-turn}
 use Rattle.match_search.specs.Parts.{part_count}
 use Rattle.match_search.proofs.Parts.{search-parts}
 use Rattle.match_search.specs.declared.Wanted.{Wanted}
 use Rattle.match_search.specs.Settled.{member_count, sought, searched, settled}
+use Rattle.std.specs.Prelude.{Err, None, Ok, Option, Some, is_some}
 
 -- The search one level down
 abbrev pub deeper : (ℕ → Compat) → View → Sought → ℕ → ℕ → Search
 deeper fits T q zero = no_level
 deeper fits T q (suc levels) = search fits T q levels
 
-deeper-none : (fits : ℕ → Compat) (T : View) (q : Sought) (levels j : ℕ) → levels ≡ 0 → deeper fits T q levels j ≡ Failed TooDeep
+deeper-none : (fits : ℕ → Compat) (T : View) (q : Sought) (levels j : ℕ) → levels ≡ 0 → deeper fits T q levels j ≡ Err TooDeep
 deeper-none fits T q levels j h = rw h
 
 deeper-less : (fits : ℕ → Compat) (T : View) (q : Sought) (levels j : ℕ) → (levels ≡ 0 → ⊥) → deeper fits T q levels j ≡ search fits T q (levels - 1) j
@@ -45,12 +44,6 @@ empty-yes (x ∷ xs) h = absurd (omega arith)
 empty-no : (xs : List ℕ) → (length xs ≡ 0 → ⊥) → is_empty xs ≡ false
 empty-no [] h = absurd (h refl)
 empty-no (x ∷ xs) h = refl
-
--- Anything but nothing ends the level.
-or_else-ends : (x rest : Search) → (x ≡ Missing → ⊥) → or_else x rest ≡ x
-or_else-ends (Found s) rest h = refl
-or_else-ends Missing rest h = absurd (h refl)
-or_else-ends (Failed r) rest h = refl
 
 search-level : (fits : ℕ → Compat) (T : View) (q : Sought) (levels i : ℕ) → search fits T q levels i ≡ members_of (deeper fits T q levels) fits T q (resolve T.typ i)
 unfolding search
@@ -70,27 +63,27 @@ remaining L T w levels i k =
 pub record Searching (L T : View) (w : Wanted) (levels id i : ℕ) (name : List ℕ) (n k : ℕ) : Type 0 where
   pub named : name ≡ L.text w.member.name
   pub all : n ≡ member_count (T.typ i)
-  pub rest : cond (is_composite (T.typ i).kind) (remaining L T w levels i k) Missing ≡ searched L T w levels id
+  pub rest : cond (is_composite (T.typ i).kind) (remaining L T w levels i k) (Ok None) ≡ searched L T w levels id
 
 -- Before the loop
 
 module _ (L T : View) (w : Wanted) (levels id : ℕ) where
-  pub search-endless : resolve T.typ id ≡ Endless → Failed Unresolved ≡ searched L T w levels id
+  pub search-endless : {r : Refusal} → resolve T.typ id ≡ Err r → Err r ≡ searched L T w levels id
   search-endless e = sym (search-level _ T (sought L w) levels id ∙ rw e)
 
-  pub searching-first : {i : ℕ} → resolve T.typ id ≡ At i → {name : List ℕ} {n : ℕ} → name ≡ L.text w.member.name → n ≡ member_count (T.typ i)
+  pub searching-first : {i : ℕ} → resolve T.typ id ≡ Ok i → {name : List ℕ} {n : ℕ} → name ≡ L.text w.member.name → n ≡ member_count (T.typ i)
       → Searching L T w levels id i name n 0
   searching-first e p q = record { named = p; all = q; rest = sym (search-level _ T (sought L w) levels id ∙ rw e) }
 
 -- In the loop and after it
 
 module _ {L T : View} {w : Wanted} {levels id i : ℕ} {name : List ℕ} {n k : ℕ} (v : Searching L T w levels id i name n k) where
-  at-end : (b : Bool) → n ≡ cond b (length (T.typ i).entries) 0 → n ≤ k → cond b (remaining L T w levels i k) Missing ≡ Missing
+  at-end : (b : Bool) → n ≡ cond b (length (T.typ i).entries) 0 → n ≤ k → cond b (remaining L T w levels i k) (Ok None) ≡ (Ok None)
   unfolding level
   at-end true a h = rw (drop_of_length-le (T.typ i).entries {i = k} (omega arith))
   at-end false a h = refl
 
-  pub searching-end : n ≤ k → Missing ≡ searched L T w levels id
+  pub searching-end : n ≤ k → (Ok None) ≡ searched L T w levels id
   searching-end h = sym (at-end (is_composite (T.typ i).kind) v.all h) ∙ v.rest
 
   module _ (h : k < n) where
@@ -100,7 +93,7 @@ module _ {L T : View} {w : Wanted} {levels id i : ℕ} {name : List ℕ} {n k : 
     here : remaining L T w levels i k ≡ searched L T w levels id
     here = rw inside.0 at v.rest
 
-    pub searching-full : w.from.parts ≡ max_spec_len → Failed (MaximumNesting w.candidate) ≡ searched L T w levels id
+    pub searching-full : w.from.parts ≡ max_spec_len → Err (MaximumNesting w.candidate) ≡ searched L T w levels id
     searching-full p = rw (eq-eqb w.from.parts max_spec_len p) at (sym (level-turn _ _ _ _ _ (T.typ i) k inside.1) ∙ here)
 
     module _ {e : Entry} {text : List ℕ} (room : w.from.parts ≡ max_spec_len → ⊥) (p : e ≡ nth_entry (T.typ i) k) (q : text ≡ T.text e.name) where
@@ -114,7 +107,7 @@ module _ {L T : View} {w : Wanted} {levels id i : ℕ} {name : List ℕ} {n k : 
       next : remaining L T w levels i (suc k) ≡ searched L T w levels id → Searching L T w levels id i name n (k + 1)
       next r = record { named = v.named; all = v.all; rest = rw (inside.0, add-one) r }
 
-      pub searching-deep : length text ≡ 0 → levels ≡ 0 → Failed TooDeep ≡ searched L T w levels id
+      pub searching-deep : length text ≡ 0 → levels ≡ 0 → Err TooDeep ≡ searched L T w levels id
       searching-deep z l = rw (empty-yes text z, deeper-none _ T (sought L w) levels e.typ l) at tried
 
       module _ (z : length text ≡ 0) (l : levels ≡ 0 → ⊥) {below up : Search} {b : ℕ} (x : below ≡ searched L T w (levels - 1) e.typ)
@@ -122,11 +115,16 @@ module _ {L T : View} {w : Wanted} {levels id i : ℕ} {name : List ℕ} {n k : 
         back : or_else up (remaining L T w levels i (suc k)) ≡ searched L T w levels id
         back = rw (u, y, x) (rw (empty-yes text z, deeper-less _ T (sought L w) levels e.typ l) at tried)
 
-        pub searching-back : (up ≡ Missing → ⊥) → up ≡ searched L T w levels id
-        searching-back o = sym (or_else-ends up _ o) ∙ back
+        pub searching-refused : {r : Refusal} → up ≡ Err r → Err r ≡ searched L T w levels id
+        searching-refused o = rw o at back
 
-        pub searching-past : up ≡ Missing → Searching L T w levels id i name n (k + 1)
-        searching-past o = next (rw o at back)
+        pub searching-back : {o : Option Target} → up ≡ Ok o → is_some o ≡ true → Ok o ≡ searched L T w levels id
+        searching-back {o = None} p h = cc
+        searching-back {o = Some s} p h = rw p at back
+
+        pub searching-past : {o : Option Target} → up ≡ Ok o → is_some o ≡ false → Searching L T w levels id i name n (k + 1)
+        searching-past {o = None} p h = next (rw p at back)
+        searching-past {o = Some s} p h = cc
 
       module _ (z : length text ≡ 0 → ⊥) {same : Bool} (x : same ≡ same_text name text) where
         named-one : cond same (settled L T w i k) (remaining L T w levels i (suc k)) ≡ searched L T w levels id

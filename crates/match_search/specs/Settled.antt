@@ -1,13 +1,11 @@
 -- What the code wants, looked for in the target: the rules' search with what it asks written out.
-use Rattle.std.specs.Prelude.{ℕ, cond, length}
+use Rattle.std.specs.Prelude.{ℕ, cond, length, Ok, Some}
 use Rattle.btf_kinds.specs.Types.{Ty}
 use Rattle.btf_view.specs.View.{View}
-use Rattle.rules.specs.declared.Search.{Search}
-use Rattle.rules.specs.declared.Search.TheVariants.{Found}
 use Rattle.rules.specs.Kinds.{is_composite}
 use Rattle.rules.specs.Fields.{member_bits, nth_entry}
 use Rattle.rules.specs.Types.{fields_compatible}
-use Rattle.rules.specs.Matching.{Sought, search, decided, grown, at_member}
+use Rattle.rules.specs.Matching.{Sought, search, decided, grown, at_member, Search}
 use Rattle.match_search.specs.declared.Wanted.{Wanted}
 
 -- The members of a type: a struct's or a union's
@@ -25,4 +23,4 @@ searched L T w levels i = search (fields_compatible L T w.member.typ) T (sought 
 unfoldable pub settled : View → View → Wanted → ℕ → ℕ → Search
 settled L T w i k =
     decided (fields_compatible L T w.member.typ (nth_entry (T.typ i) k).typ)
-    (grown (member_bits (T.typ i) (nth_entry (T.typ i) k)) (Found (at_member w.from i k (nth_entry (T.typ i) k).typ)))
+    (grown (member_bits (T.typ i) (nth_entry (T.typ i) k)) (Ok (Some (at_member w.from i k (nth_entry (T.typ i) k).typ))))

@@ -14,15 +14,15 @@
 
 ghost use Rattle.std.specs.Prelude.{◌≡◌, ◌+◌, ◌<◌};
 ghost use Rattle.btf_view.specs.Lent.{lent};
-ghost use Rattle.rules.specs.Matching.{grown, decided};
+ghost use Rattle.rules.specs.Matching.{grown};
 ghost use Rattle.match_search.specs.Parts.{part_count};
 ghost use Rattle.match_search.specs.Settled.{member_count, settled, searched};
 
-use access_bits::{Bits, bits_sum};
+use access_bits::bits_sum;
 use access_step::member_bits;
 use btf_kinds::Entry;
 use btf_view::Types;
-use rules::{Accessor, Compat, MAX_SPEC_LEN, Refusal, Resolved, Search, Target};
+use rules::{Accessor, MAX_SPEC_LEN, Refusal, Target};
 use types_chain::{is_composite, resolve_type};
 use types_field_compat::fields_are_compatible;
 use types_names::same_text;
@@ -36,61 +36,49 @@ pub struct Wanted {
 }
 
 // On the way back from a member: its bit offset is added, and one part, untested.
-fn grow(below: Search, bits: u32) -> Search
+fn grow(below: Result<Option<Target>, Refusal>, bits: u32) -> Result<Option<Target>, Refusal>
     requires { part_count below + 1 < 4294967296 }
     ensures { result ≡ grown bits below }
 {
-    match below {
-        Search::Found(s) => {
-            let sum = bits_sum(s.bits, bits as u64);
-            let Bits::At(n) = sum else {
-                return Search::Failed(Refusal::BitsTooBig);
-            };
-            let last = s.last;
-            Search::Found(Target {
-                typ: s.typ,
-                last: last,
-                bits: n,
-                parts: s.parts + 1,
-            })
-        }
-        _ => below,
-    }
+    let Some(place) = below? else {
+        return Ok(None);
+    };
+    let sum = bits_sum(place.bits, bits as u64)?;
+    Ok(Some(Target {
+        typ: place.typ,
+        last: place.last,
+        bits: sum,
+        parts: place.parts + 1,
+    }))
 }
 
-// A compatible member is found, and an incompatible one is not.
-fn decide(fit: Compat, found: Search) -> Search
-    ensures { result ≡ decided fit found }
-{
-    match fit {
-        Compat::Compatible => found,
-        Compat::Different => Search::Missing,
-        Compat::Broken => Search::Failed(Refusal::Unresolved),
-        Compat::Beyond => Search::Failed(Refusal::TooDeep),
-    }
-}
-
-// The member k of the target's type id has the local member's name: it decides.
-fn settle(local: &Types, target: &Types, want: Wanted, id: u32, k: u32) -> Search
+// The member k of the target's type id has the local member's name: it decides. Compatible it is found, else it is not.
+#[tactic(auto, unfolding(crate::specs::Settled::settled))]
+fn settle(
+    local: &Types,
+    target: &Types,
+    want: Wanted,
+    id: u32,
+    k: u32,
+) -> Result<Option<Target>, Refusal>
     requires { want.from.parts + 1 < 4294967296 }
     ensures { result ≡ settled (lent local.now) (lent target.now) want id k }
 {
-    let from = want.from;
-    let own = want.member;
     let m = target.entry_of(id, k);
-    let fit = fields_are_compatible(local, target, own.typ, m.typ);
-    let last = Accessor {
-        typ: id,
-        index: k as u64,
-        named: true,
-    };
+    if !fields_are_compatible(local, target, want.member.typ, m.typ)? {
+        return Ok(None);
+    }
     let here = Target {
         typ: m.typ,
-        last: last,
-        bits: from.bits,
-        parts: from.parts,
+        last: Accessor {
+            typ: id,
+            index: k as u64,
+            named: true,
+        },
+        bits: want.from.bits,
+        parts: want.from.parts,
     };
-    decide(fit, grow(Search::Found(here), member_bits(target, id, m)))
+    grow(Ok(Some(here)), member_bits(target, id, m))
 }
 
 // How many members a type has: none but in a struct or a union.
@@ -104,34 +92,37 @@ fn members_of(types: &Types, id: u32) -> u32
 }
 
 // The wanted member, in the target's type id: by its name, through unnamed members for as many levels as are left.
-pub fn search_member(local: &Types, target: &Types, want: Wanted, id: u32, levels: u32) -> Search
+pub fn search_member(
+    local: &Types,
+    target: &Types,
+    want: Wanted,
+    id: u32,
+    levels: u32,
+) -> Result<Option<Target>, Refusal>
     requires { want.from.parts + levels + 2 < 4294967296 }
     ensures { result ≡ searched (lent local.now) (lent target.now) want levels id }
 {
-    let Resolved::At(i) = resolve_type(target, id) else {
-        return Search::Failed(Refusal::Unresolved);
-    };
+    let i = resolve_type(target, id)?;
     let name = local.text_of(want.member.name);
     for k in 0..members_of(target, i) {
         if want.from.parts == MAX_SPEC_LEN {
-            return Search::Failed(Refusal::MaximumNesting(want.candidate));
+            return Err(Refusal::MaximumNesting(want.candidate));
         }
         let m = target.entry_of(i, k);
         let text = target.text_of(m.name);
         if text.len() == 0 {
             let deepest = levels == 0;
             if deepest {
-                return Search::Failed(Refusal::TooDeep);
+                return Err(Refusal::TooDeep);
             }
-            let down = levels - 1;
-            let below = search_member(local, target, want, m.typ, down);
-            let up = grow(below, member_bits(target, i, m));
-            let Search::Missing = up else {
-                return up;
-            };
+            let below = search_member(local, target, want, m.typ, levels - 1);
+            let up = grow(below, member_bits(target, i, m))?;
+            if up.is_some() {
+                return Ok(up);
+            }
         } else if same_text(name, text) {
             return settle(local, target, want, i, k);
         }
     }
-    Search::Missing
+    Ok(None)
 }

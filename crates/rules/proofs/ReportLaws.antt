@@ -15,13 +15,14 @@ use Rattle.rules.specs.declared.Refusal.{Refusal}
 use Rattle.rules.specs.declared.Write.{Write}
 use Rattle.rules.specs.declared.Ending.{Ending}
 use Rattle.rules.specs.declared.Ending.TheVariants.{Misshapen}
-use Rattle.rules.specs.Refusal.{Reply, ok, refused}
+use Rattle.rules.specs.Refusal.{Reply}
 use Rattle.rules.specs.Kinds.{enum_value}
 use Rattle.rules.specs.Apply.{Patch, done, stopped, patch}
 use Rattle.rules.specs.Record.{outcome, refuse, apply, in_function, index_of, record_of, relocated}
 use Rattle.rules.specs.List.{follow, list_of, applied_of}
 use Rattle.rules.specs.Call.{records_in, end_of, ended, unrun, run_of, shaped, relocate_read}
 use Rattle.rules.specs.Report.{answered, answer_at_end, again, report_from, report, report_said}
+use Rattle.std.specs.Prelude.{Err, Ok}
 
 -- An answer that is no refusal
 abbrev went : Answer → Bool
@@ -34,14 +35,14 @@ wrong e = subst (λ (b : Bool). cond b ⊥ Unit) e tt
 
 -- A record that is not refused is answered by what it writes.
 module _ (xs : List ℕ) (i : ℕ) where
-  patched : (w : Write) (p : Patch) → went (outcome w p).answer ≡ true → answered (ok w) ≡ (outcome w p).answer
+  patched : (w : Write) (p : Patch) → went (outcome w p).answer ≡ true → answered (Ok w) ≡ (outcome w p).answer
   patched w (done ys) h = refl
   patched w (stopped r ys) h = absurd (wrong h)
 
   written : (w : Reply Write) → went (apply xs i w).answer ≡ true → answered w ≡ (apply xs i w).answer
   unfolding apply
-  written (ok w) h = patched w (patch xs i w) h
-  written (refused r) h = absurd (wrong h)
+  written (Ok w) h = patched w (patch xs i w) h
+  written (Err r) h = absurd (wrong h)
 
 told : (L T : View) (section : ℕ) (xs : List ℕ) (r : Record) → went (record_of L T section xs r).answer ≡ true → answered (relocated L T r) ≡ (record_of L T section xs r).answer
 unfolding record_of

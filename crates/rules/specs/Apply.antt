@@ -1,8 +1,7 @@
 -- What is written into an instruction (document 01, section 7; RFC 9669; the crate's apply and poison_insn).
 -- An instruction is 8 bytes: code, destination (low) and source (high) register, off in 2 bytes, imm in 4.
 -- Down to the last definition `xs` are the instructions from the patched one, i, onward: it stands at the front, its successor behind it.
-use Rattle.std.specs.Prelude.{ℕ, ◌+◌, ◌*◌, ◌/◌, ◌%◌, ◌^◌, Bool, cond, ◌||◌, List, [], ◌∷◌, ◌++◌, length, get_or, take, drop, set, eqb, ltb}
-use Rattle.std.proofs.Math.Option.{Option, none, some}
+use Rattle.std.specs.Prelude.{ℕ, ◌+◌, ◌*◌, ◌/◌, ◌%◌, ◌^◌, Bool, cond, ◌||◌, List, [], ◌∷◌, ◌++◌, length, get_or, take, drop, set, eqb, ltb, None, Option, Some}
 use Rattle.std.proofs.lemmas.List.Edits.{sets}
 use Rattle.word_read.specs.Num.{little}
 use Rattle.word_read.specs.Put.{put_at}
@@ -87,15 +86,15 @@ patch_alu xs n = cond (eqb (source_register xs) 0) (done (with_imm xs (low n))) 
 
 -- The size bits of a load or store
 unfoldable pub size_bits : ℕ → Option ℕ
-size_bits s = cond (eqb s 1) (some B) (cond (eqb s 2) (some H) (cond (eqb s 4) (some W) (cond (eqb s 8) (some DW) none)))
+size_bits s = cond (eqb s 1) (Some B) (cond (eqb s 2) (Some H) (cond (eqb s 4) (Some W) (cond (eqb s 8) (Some DW) None)))
 
 -- Other size bits; mode and class stay.
 unfoldable pub with_size : List ℕ → ℕ → List ℕ
 with_size xs b = with_code xs (code xs / 32 * 32 + b + code xs % 8)
 
 abbrev pub resized : List ℕ → Option ℕ → Patch
-resized xs none = stopped (BadInstruction 4) xs
-resized xs (some b) = done (with_size xs b)
+resized xs None = stopped (BadInstruction 4) xs
+resized xs (Some b) = done (with_size xs b)
 
 -- A load or store whose off is written already, and the size that it gets
 unfoldable pub resize : List ℕ → Resize → Patch

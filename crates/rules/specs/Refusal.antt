@@ -1,5 +1,5 @@
 -- Why a record is refused, with document 01's numbers (section 3), and the stages of a record's work.
-use Rattle.std.specs.Prelude.{ℕ, cond, List, [], ◌∷◌, ltb}
+use Rattle.std.specs.Prelude.{ℕ, cond, List, [], ◌∷◌, ltb, Result, Ok, Err}
 use Rattle.rules.specs.declared.Refusal.{Refusal}
 use Rattle.rules.specs.declared.Refusal.TheVariants.{KindTooBig, NotInFunction, NoSuccessor, BadAccess, IndexTooBig, WrongKind, Conflict}
 use Rattle.rules.specs.declared.Refusal.TheVariants.{MaximumNesting, BadInstruction, NoMatch, Unresolved, TooManyParts, BitsTooBig, TooDeep}
@@ -40,15 +40,14 @@ returned r BitsTooBig = r ∷ []
 returned r TooDeep = r ∷ []
 
 -- A stage's answer: what it found, or why the record is refused
-pub data Reply (A : Type 0) : Type 0 where
-  ok : A → Reply A
-  refused : Refusal → Reply A
+abbrev pub Reply : Type 0 → Type 0
+Reply A = Result A Refusal
 
 -- The next stage, where this one found something
 abbrev pub bind : {A B : Type 0} → Reply A → (A → Reply B) → Reply B
-bind (ok a) next = next a
-bind (refused r) next = refused r
+bind (Ok a) next = next a
+bind (Err r) next = Err r
 
 -- A bit offset, found by a sum or a product
 abbrev pub bit_offset : ℕ → Reply ℕ
-bit_offset n = cond (ltb n bit_limit) (ok n) (refused BitsTooBig)
+bit_offset n = cond (ltb n bit_limit) (Ok n) (Err BitsTooBig)

@@ -1,5 +1,5 @@
 -- The report: four lines for each record answered, up to and including the first refused (document 01, section 9).
-use Rattle.std.specs.Prelude.{ℕ, zero, suc, ◌+◌, ◌/◌, ◌%◌, cond, ◌||◌, List, [], ◌∷◌, ◌++◌, ltb, eqb}
+use Rattle.std.specs.Prelude.{ℕ, zero, suc, ◌+◌, ◌/◌, ◌%◌, cond, ◌||◌, List, [], ◌∷◌, ◌++◌, ltb, eqb, Err, Ok}
 use Prim.Native.String.{String}
 use Rattle.btf_view.specs.View.{View}
 use Rattle.rules.specs.declared.Record.{Record}
@@ -10,7 +10,7 @@ use Rattle.rules.specs.declared.Ending.{Ending}
 use Rattle.rules.specs.declared.Ending.TheVariants.{Done, BadBtf, OverLimit, TableShort, Stopped, Misshapen}
 use Rattle.rules.specs.declared.Said.{Said}
 use Rattle.rules.specs.Ascii.{ascii}
-use Rattle.rules.specs.Refusal.{Reply, ok, refused, number}
+use Rattle.rules.specs.Refusal.{Reply, number}
 use Rattle.rules.specs.Record.{index_of, relocated, shown}
 use Rattle.rules.specs.List.{list_of}
 
@@ -66,8 +66,8 @@ report L T section xs rs = report_from section 0 rs (list_of L T section xs rs).
 
 -- What an applied record shows, by what it writes
 abbrev pub answered : Reply Write → Answer
-answered (ok w) = shown w
-answered (refused r) = Refused r
+answered (Ok w) = shown w
+answered (Err r) = Refused r
 
 -- The answer with which a call ended at a record
 abbrev pub answer_at_end : Ending → List Answer

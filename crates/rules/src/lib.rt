@@ -1,7 +1,11 @@
 // The words of document 01 as types: what the code answers is what the definitions beside this file speak of.
 #![tactic(auto)]
 
-// The kinds of records (LLVM's relocation document).
+ghost use Rattle.std.specs.Prelude.{◌≡◌};
+ghost use Rattle.rules.specs.declared.Refusal.TheVariants.{Unresolved};
+
+// The kinds of records (LLVM's relocation document). They stay numbers: a record holds any, and `call_compute::record_write`,
+// `value_match::field_value` and the definitions behind them (`relocated`, `field_value`) answer for every one.
 pub const FIELD_BYTE_OFFSET: u32 = 0;
 
 pub const FIELD_BYTE_SIZE: u32 = 1;
@@ -63,13 +67,6 @@ pub enum Refusal {
     TooDeep,
 }
 
-// Where a chain of modifiers ends: the first id that is none, or nowhere in the turns allowed.
-#[derive(Clone, Copy)]
-pub enum Resolved {
-    At(u32),
-    Endless,
-}
-
 // Why a type has no size.
 #[derive(Clone, Copy)]
 pub enum Why {
@@ -78,26 +75,24 @@ pub enum Why {
     ProductTooBig,
 }
 
-// A size in bytes; or why there is none, and the id where it showed.
+// A type without a size: why, and the id where it showed.
 #[derive(Clone, Copy)]
-pub enum Sized {
-    Bytes(u32),
-    Unsized(Why, u32),
+pub struct Unsized {
+    pub why: Why,
+    pub id: u32,
 }
 
-// Whether two types are compatible, or why it cannot be told.
-#[derive(Clone, Copy)]
-pub enum Compat {
-    Compatible,
-    Different,
-    // a chain or a depth of the crate's own, or a kind that cannot stand there (14)
-    Broken,
-    // past the bound of nested steps (17)
-    Beyond,
+// A record that needs the size is refused.
+impl From<Unsized> for Refusal {
+    ghost from_gives = { λ _ r. r ≡ Unresolved };
+
+    fn from(_unsized: Unsized) -> Refusal {
+        Refusal::Unresolved
+    }
 }
 
 // A step of an access: the named member `index` of the composite type `typ`, or the element `index` of type `typ`.
-#[derive(Clone, Copy)]
+#[derive(Clone, Copy, Default)]
 pub struct Accessor {
     pub typ: u32,
     pub index: u64,
@@ -106,31 +101,19 @@ pub struct Accessor {
 
 // A step of the local walk, to a type at a bit offset: by an accessor, or within an unnamed member by none.
 #[derive(Clone, Copy)]
-pub enum Step {
-    By(Accessor, u32, u64),
-    Within(u32, u64),
+pub struct Step {
+    pub by: Option<Accessor>,
+    pub typ: u32,
+    pub bits: u64,
 }
 
-// The type that a value's size is compared by, where it has one.
-#[derive(Clone, Copy)]
-pub enum Typing {
-    Typed(u32),
-    Untyped,
-}
-
-// A value, with what is compared when a load or store is patched: the size of what lies at an offset, and its type.
+// A value, with what is compared when a load or store is patched: the size of what lies at an offset, and its type, where it
+// has one.
 #[derive(Clone, Copy)]
 pub struct Value {
     pub number: u64,
     pub size: u32,
-    pub typ: Typing,
-}
-
-// A value, or none.
-#[derive(Clone, Copy)]
-pub enum Worth {
-    Known(Value),
-    Unknown,
+    pub typ: Option<u32>,
 }
 
 // How a field is loaded: from a byte offset, this many bytes, of which it takes this many bits.
@@ -150,28 +133,19 @@ pub struct Target {
     pub parts: u32,
 }
 
-// What a step in the target leads to.
+// A candidate's match: at a bit offset, with the target's value, where it has one.
 #[derive(Clone, Copy)]
-pub enum Search {
-    Found(Target),
-    Missing,
-    Failed(Refusal),
+pub struct Match {
+    pub bits: u64,
+    pub value: Option<Value>,
 }
 
-// What a candidate gives: nothing, a match at a bit offset with or without a value, or a refusal of the record.
+// What is kept of the matches: the first one, the first conflicting id and how many conflict.
 #[derive(Clone, Copy)]
-pub enum Event {
-    Nothing,
-    Matched(u64, Worth),
-    Bad(Refusal),
-}
-
-// What is kept of the matches: the first one's bit offset and value, the first conflicting id and how many conflict.
-#[derive(Clone, Copy)]
-pub enum Matches {
-    Unmatched,
-    Kept(u64, Worth, u32, u64),
-    Halted(Refusal),
+pub struct Kept {
+    pub first: Match,
+    pub conflict: u32,
+    pub count: u64,
 }
 
 // What a load or store of another size needs: nothing where the sizes are equal; no type on one side; types that cannot
@@ -185,6 +159,7 @@ pub enum Resize {
 }
 
 // What is written: a value, with the change of size that a load or store needs; or poison.
+// No `Option`: poison is bytes too, and `None` would say that nothing is written.
 #[derive(Clone, Copy)]
 pub enum Write {
     Put(u64, Resize),
@@ -201,6 +176,7 @@ pub struct Record {
 }
 
 // What a record is answered: applied with a value, applied with poison, or refused.
+// No `Result` of an `Option`: the report tells the three apart by one match, and poison is no absence, it is applied.
 #[derive(Clone, Copy)]
 pub enum Answer {
     Applied(u64),
@@ -217,6 +193,7 @@ pub enum Which {
 
 // How a call ends (section 3): every record applied; a bad BTF with the id of its first fault; a BTF over a limit; a lent
 // table too short, with the entries needed; a record refused, with its number in the list; bytes of a wrong shape.
+// No `Result`: the ends are numbered 0 to 18 by one definition, `Done` among them, and none is handed on by `?`.
 #[derive(Clone, Copy)]
 pub enum Ending {
     Done,

@@ -3,10 +3,38 @@
 // value.
 #![tactic(auto)]
 
+use crate::Put::{Byte, Word};
 use btf_accept::{Reading, read};
-use leamugi_numbers::reading_numbers;
+use leamugi_numbers::{Numbers, reading_numbers};
+use std::io;
 use word_put::{put_u8, put_u16, put_u32};
 use word_read::part;
+
+// How many bytes the BTF of the cases has.
+const SIZE: usize = 367;
+
+// A number put at a place: one byte, or 32 bits.
+#[derive(Clone, Copy)]
+enum Put {
+    Byte(usize, u8),
+    Word(usize, u32),
+}
+
+impl Put {
+    fn number(self) -> u32 {
+        match self {
+            Byte(_, n) => n as u32,
+            Word(_, n) => n,
+        }
+    }
+
+    fn store(self, b: &mut [u8]) {
+        match self {
+            Byte(at, n) => put_u8(b, at, n),
+            Word(at, n) => put_u32(b, at, n),
+        }
+    }
+}
 
 // A type's twelve bytes.
 fn typ(b: &mut [u8], at: usize, name: u32, kind: u8, vlen: u16, third: u32) {
@@ -102,304 +130,277 @@ fn framed(b: &mut [u8]) {
 }
 
 // The whole: nineteen types.
-fn base(b: &mut [u8]) {
-    framed(b);
-    plain_types(b);
-    member_types(b);
-    enum_type(b);
-    short_types(b);
-    program_types(b);
-    late_types(b);
+fn base() -> [u8; SIZE] {
+    let mut b = [0u8; SIZE];
+    framed(&mut b);
+    plain_types(&mut b);
+    member_types(&mut b);
+    enum_type(&mut b);
+    short_types(&mut b);
+    program_types(&mut b);
+    late_types(&mut b);
+    b
 }
 
-fn line(label: &[u8], put: u32, a: Reading) {
-    let said = reading_numbers(a);
-    let number = said.number;
-    io::write_all(1, label);
-    io::write_all(1, b" ");
-    io::print_decimal(1, put as u64);
-    io::write_all(1, b" -> ");
-    io::print_decimal(1, number as u64);
+fn line(rt: &impl Print, label: &str, put: u32, reading: Reading) -> io::Result<()> {
+    let Numbers { number, beside } = reading_numbers(reading);
+    let [first, _, _, _, last] = beside;
     match number {
-        0 => {
-            io::write_all(1, b", last ");
-            io::print_decimal(1, said.e);
-        }
-        2 => {}
-        _ => {
-            io::write_all(1, b", ");
-            io::print_decimal(1, said.a);
-        }
+        0 => println!(rt; "{label} {put} -> {number}, last {last}"),
+        2 => println!(rt; "{label} {put} -> {number}"),
+        _ => println!(rt; "{label} {put} -> {number}, {first}"),
     }
-    io::write_all(1, b"\n");
 }
 
-// The base with one 32-bit number put at a place.
-fn edit(label: &[u8], at: usize, put: u32) {
-    let mut b = [0u8; 367];
-    base(&mut b);
-    put_u32(&mut b, at, put);
-    let mut t = [0u32; 20];
-    line(label, put, read(&b, &mut t));
+// The base with a number put into it, and others beside it.
+fn edits(rt: &impl Print, label: &str, put: Put, beside: &[Put]) -> io::Result<()> {
+    let mut b = base();
+    for other in beside {
+        other.store(&mut b);
+    }
+    put.store(&mut b);
+    line(rt, label, put.number(), read(&b, &mut [0u32; 20]))
 }
 
-// One byte.
-fn edit_byte(label: &[u8], at: usize, put: u8) {
-    let mut b = [0u8; 367];
-    base(&mut b);
-    put_u8(&mut b, at, put);
-    let mut t = [0u32; 20];
-    line(label, put as u32, read(&b, &mut t));
-}
-
-// Two numbers.
-fn edits(label: &[u8], at: usize, put: u32, also: usize, beside: u32) {
-    let mut b = [0u8; 367];
-    base(&mut b);
-    put_u32(&mut b, also, beside);
-    put_u32(&mut b, at, put);
-    let mut t = [0u32; 20];
-    line(label, put, read(&b, &mut t));
+fn edit(rt: &impl Print, label: &str, put: Put) -> io::Result<()> {
+    edits(rt, label, put, &[])
 }
 
 // The first bytes of the base alone.
-fn cut(label: &[u8], size: u32) {
-    let mut b = [0u8; 367];
-    base(&mut b);
-    let mut t = [0u32; 20];
-    line(label, size, read(part(&b, 0, size as usize), &mut t));
+fn cut(rt: &impl Print, size: u32) -> io::Result<()> {
+    let b = base();
+    line(
+        rt,
+        "bytes",
+        size,
+        read(part(&b, 0, size as usize), &mut [0u32; 20]),
+    )
 }
 
-fn header_start() {
-    edit(b"base, its first word", 0, 0x0001_EB9F);
-    edit_byte(b"magic, low byte", 0, 0x9E);
-    edit_byte(b"magic, high byte", 1, 0xEC);
-    edit_byte(b"version", 2, 0);
-    edit_byte(b"version", 2, 2);
-    edit_byte(b"flags", 3, 1);
-    cut(b"bytes", 0);
+fn header_start(rt: &impl Print) -> io::Result<()> {
+    edit(rt, "base, its first word", Word(0, 0x0001_EB9F))?;
+    edit(rt, "magic, low byte", Byte(0, 0x9E))?;
+    edit(rt, "magic, high byte", Byte(1, 0xEC))?;
+    edit(rt, "version", Byte(2, 0))?;
+    edit(rt, "version", Byte(2, 2))?;
+    edit(rt, "flags", Byte(3, 1))?;
+    cut(rt, 0)
 }
 
-fn header_bytes() {
-    cut(b"bytes", 23);
-    cut(b"bytes", 24);
-    cut(b"bytes", 366);
-    edit(b"header length", 4, 23);
-    edit(b"header length", 4, 25);
-    edit(b"type offset", 8, 0xFFFF_FFFF);
-    edit(b"type offset", 8, 7);
+fn header_bytes(rt: &impl Print) -> io::Result<()> {
+    cut(rt, 23)?;
+    cut(rt, 24)?;
+    cut(rt, 366)?;
+    edit(rt, "header length", Word(4, 23))?;
+    edit(rt, "header length", Word(4, 25))?;
+    edit(rt, "type offset", Word(8, 0xFFFF_FFFF))?;
+    edit(rt, "type offset", Word(8, 7))
 }
 
-fn header_sections() {
-    edits(b"no types, offset to the end", 8, 343, 12, 0);
-    edits(b"no types, offset past the end", 8, 344, 12, 0);
-    edit(b"type length", 12, 0xFFFF_FFE8);
-    edit(b"string offset", 16, 337);
-    edit(b"string length", 20, 8);
+fn header_sections(rt: &impl Print) -> io::Result<()> {
+    edits(
+        rt,
+        "no types, offset to the end",
+        Word(8, 343),
+        &[Word(12, 0)],
+    )?;
+    edits(
+        rt,
+        "no types, offset past the end",
+        Word(8, 344),
+        &[Word(12, 0)],
+    )?;
+    edit(rt, "type length", Word(12, 0xFFFF_FFE8))?;
+    edit(rt, "string offset", Word(16, 337))?;
+    edit(rt, "string length", Word(20, 8))
 }
 
 // A header of 32 bytes, with no types behind it.
-fn long_header() {
-    let mut b = [0u8; 33];
-    header(&mut b, 0, 1);
-    put_u32(&mut b, 4, 32);
-    let mut t = [0u32; 1];
-    line(b"long header", 32, read(&b, &mut t));
-    put_u32(&mut b, 4, 33);
-    line(b"long header", 33, read(&b, &mut t));
+fn long_header(rt: &impl Print) -> io::Result<()> {
+    for length in [32, 33] {
+        let mut b = [0u8; 33];
+        header(&mut b, 0, 1);
+        put_u32(&mut b, 4, length);
+        line(rt, "long header", length, read(&b, &mut [0u32; 1]))?;
+    }
+    Ok(())
 }
 
-fn string_cases() {
-    edit(b"string length", 20, 7);
-    edit(b"string length", 20, 0);
-    edit(b"string length", 20, 6);
-    edits(b"string length, names inside", 20, 1, 12, 0);
-    edit_byte(b"first string byte", 360, 1);
-    edit_byte(b"last string byte", 366, 1);
+fn string_cases(rt: &impl Print) -> io::Result<()> {
+    edit(rt, "string length", Word(20, 7))?;
+    edit(rt, "string length", Word(20, 0))?;
+    edit(rt, "string length", Word(20, 6))?;
+    edits(
+        rt,
+        "string length, names inside",
+        Word(20, 1),
+        &[Word(12, 0)],
+    )?;
+    edit(rt, "first string byte", Byte(360, 1))?;
+    edit(rt, "last string byte", Byte(366, 1))
 }
 
 // The section ends a byte before a type does, and where it does.
-fn end(at: u32) {
+fn end(rt: &impl Print, at: u32) -> io::Result<()> {
     if 0 < at {
-        edit(b"type length", 12, at - 1);
+        edit(rt, "type length", Word(12, at - 1))?;
     }
-    edit(b"type length", 12, at);
+    edit(rt, "type length", Word(12, at))
 }
 
-fn cut_first_types() {
-    end(0);
-    end(12);
-    end(16);
-    end(28);
-    end(52);
-    end(88);
-    end(112);
+fn cut_types(rt: &impl Print) -> io::Result<()> {
+    let ends = [
+        0, 12, 16, 28, 52, 88, 112, 140, 152, 164, 176, 188, 200, 212, 232, 248, 272, 284, 300,
+        312, 336,
+    ];
+    for at in ends {
+        end(rt, at)?;
+    }
+    Ok(())
 }
 
-fn cut_more_types() {
-    end(140);
-    end(152);
-    end(164);
-    end(176);
-    end(188);
-    end(200);
-    end(212);
+fn kind_cases(rt: &impl Print) -> io::Result<()> {
+    edit(rt, "kind of INT", Byte(31, 0))?;
+    edit(rt, "kind of FLOAT", Byte(303, 0))?;
+    edit(rt, "kind of FLOAT", Byte(303, 19))?;
+    edit(rt, "kind of FLOAT", Byte(303, 20))?;
+    edit(rt, "kind of FLOAT", Byte(303, 31))
 }
 
-fn cut_last_types() {
-    end(232);
-    end(248);
-    end(272);
-    end(284);
-    end(300);
-    end(312);
-    end(336);
-}
-
-fn kind_cases() {
-    edit_byte(b"kind of INT", 31, 0);
-    edit_byte(b"kind of FLOAT", 303, 0);
-    edit_byte(b"kind of FLOAT", 303, 19);
-    edit_byte(b"kind of FLOAT", 303, 20);
-    edit_byte(b"kind of FLOAT", 303, 31);
-}
-
-fn info_cases() {
-    edit_byte(b"kind of FLOAT, unused bits", 303, 0x70);
-    edit_byte(b"unused info bits", 302, 0xFF);
-    edit_byte(b"kind flag of FWD", 171, 0x87);
-    edit(b"list length of FUNC", 228, 0x0C00_FFFF);
-    edit(b"list length of STRUCT", 80, 0x0400_FFFF);
+fn info_cases(rt: &impl Print) -> io::Result<()> {
+    edit(rt, "kind of FLOAT, unused bits", Byte(303, 0x70))?;
+    edit(rt, "unused info bits", Byte(302, 0xFF))?;
+    edit(rt, "kind flag of FWD", Byte(171, 0x87))?;
+    edit(rt, "list length of FUNC", Word(228, 0x0C00_FFFF))?;
+    edit(rt, "list length of STRUCT", Word(80, 0x0400_FFFF))
 }
 
 // Bits 24 to 28 of an INT's extra word.
-fn encodings() {
-    let mut e: u8 = 0;
-    while e < 32 {
-        edit_byte(b"encoding", 39, e);
-        e += 1;
+fn encodings(rt: &impl Print) -> io::Result<()> {
+    for e in 0..32 {
+        edit(rt, "encoding", Byte(39, e))?;
     }
+    Ok(())
 }
 
 // The strings have 7 bytes.
-fn name_cases() {
-    edit(b"name of INT", 24, 6);
-    edit(b"name of INT", 24, 7);
-    edit(b"name of INT", 24, 0xFFFF_FFFF);
-    edit(b"name of a member", 100, 6);
-    edit(b"name of a member", 100, 7);
-    edit(b"name of an enumerator", 156, 6);
-    edit(b"name of an enumerator", 156, 7);
+fn name_cases(rt: &impl Print) -> io::Result<()> {
+    edit(rt, "name of INT", Word(24, 6))?;
+    edit(rt, "name of INT", Word(24, 7))?;
+    edit(rt, "name of INT", Word(24, 0xFFFF_FFFF))?;
+    edit(rt, "name of a member", Word(100, 6))?;
+    edit(rt, "name of a member", Word(100, 7))?;
+    edit(rt, "name of an enumerator", Word(156, 6))?;
+    edit(rt, "name of an enumerator", Word(156, 7))
 }
 
-fn more_names() {
-    edit(b"name of a parameter", 248, 6);
-    edit(b"name of a parameter", 248, 7);
-    edit(b"name of a wide enumerator", 348, 6);
-    edit(b"name of a wide enumerator", 348, 7);
-    edit(b"value of an enumerator", 160, 7);
-    edit(b"offset of a variable", 288, 0xFFFF_FFFF);
-    edit(b"name of ENUM64", 336, 7);
+fn more_names(rt: &impl Print) -> io::Result<()> {
+    edit(rt, "name of a parameter", Word(248, 6))?;
+    edit(rt, "name of a parameter", Word(248, 7))?;
+    edit(rt, "name of a wide enumerator", Word(348, 6))?;
+    edit(rt, "name of a wide enumerator", Word(348, 7))?;
+    edit(rt, "value of an enumerator", Word(160, 7))?;
+    edit(rt, "offset of a variable", Word(288, 0xFFFF_FFFF))?;
+    edit(rt, "name of ENUM64", Word(336, 7))
 }
 
 // The last id is 19.
-fn id_cases() {
-    edit(b"type of PTR", 48, 19);
-    edit(b"type of PTR", 48, 20);
-    edit(b"type of PTR", 48, 0);
-    edit(b"third word of ARRAY", 60, 20);
-    edit(b"element of ARRAY", 64, 19);
-    edit(b"element of ARRAY", 64, 20);
+fn id_cases(rt: &impl Print) -> io::Result<()> {
+    edit(rt, "type of PTR", Word(48, 19))?;
+    edit(rt, "type of PTR", Word(48, 20))?;
+    edit(rt, "type of PTR", Word(48, 0))?;
+    edit(rt, "third word of ARRAY", Word(60, 20))?;
+    edit(rt, "element of ARRAY", Word(64, 19))?;
+    edit(rt, "element of ARRAY", Word(64, 20))
 }
 
-fn chain_ids() {
-    edit(b"index of ARRAY", 68, 19);
-    edit(b"index of ARRAY", 68, 20);
-    edit(b"length of ARRAY", 72, 20);
-    edit(b"type of a member", 104, 19);
-    edit(b"type of a member", 104, 20);
-    edit(b"third word of FWD", 172, 20);
+fn chain_ids(rt: &impl Print) -> io::Result<()> {
+    edit(rt, "index of ARRAY", Word(68, 19))?;
+    edit(rt, "index of ARRAY", Word(68, 20))?;
+    edit(rt, "length of ARRAY", Word(72, 20))?;
+    edit(rt, "type of a member", Word(104, 19))?;
+    edit(rt, "type of a member", Word(104, 20))?;
+    edit(rt, "third word of FWD", Word(172, 20))
 }
 
-fn function_ids() {
-    edit(b"type of TYPEDEF", 184, 20);
-    edit(b"type of VOLATILE", 196, 20);
-    edit(b"type of CONST", 208, 20);
-    edit(b"type of RESTRICT", 220, 20);
-    edit(b"type of FUNC", 232, 20);
-    edit(b"type of FUNC_PROTO", 244, 20);
+fn function_ids(rt: &impl Print) -> io::Result<()> {
+    edit(rt, "type of TYPEDEF", Word(184, 20))?;
+    edit(rt, "type of VOLATILE", Word(196, 20))?;
+    edit(rt, "type of CONST", Word(208, 20))?;
+    edit(rt, "type of RESTRICT", Word(220, 20))?;
+    edit(rt, "type of FUNC", Word(232, 20))?;
+    edit(rt, "type of FUNC_PROTO", Word(244, 20))
 }
 
-fn program_ids() {
-    edit(b"type of a parameter", 252, 19);
-    edit(b"type of a parameter", 252, 20);
-    edit(b"type of VAR", 264, 20);
-    edit(b"linkage of VAR", 268, 20);
-    edit(b"type of a variable", 284, 19);
-    edit(b"type of a variable", 284, 20);
-    edit(b"size of FLOAT", 304, 20);
+fn program_ids(rt: &impl Print) -> io::Result<()> {
+    edit(rt, "type of a parameter", Word(252, 19))?;
+    edit(rt, "type of a parameter", Word(252, 20))?;
+    edit(rt, "type of VAR", Word(264, 20))?;
+    edit(rt, "linkage of VAR", Word(268, 20))?;
+    edit(rt, "type of a variable", Word(284, 19))?;
+    edit(rt, "type of a variable", Word(284, 20))?;
+    edit(rt, "size of FLOAT", Word(304, 20))
 }
 
-fn order_cases() {
-    edit(b"type of DECL_TAG", 316, 20);
-    edit(b"type of TYPE_TAG", 332, 20);
-    edit(b"size of ENUM64", 344, 20);
-    edits(b"types before names", 300, 0x1400_0000, 24, 7);
-    edits(b"names in the order of ids", 24, 7, 48, 20);
-    edits(b"ids in the order of ids", 316, 20, 48, 20);
+fn order_cases(rt: &impl Print) -> io::Result<()> {
+    edit(rt, "type of DECL_TAG", Word(316, 20))?;
+    edit(rt, "type of TYPE_TAG", Word(332, 20))?;
+    edit(rt, "size of ENUM64", Word(344, 20))?;
+    edits(
+        rt,
+        "types before names",
+        Word(300, 0x1400_0000),
+        &[Word(24, 7)],
+    )?;
+    edits(
+        rt,
+        "names in the order of ids",
+        Word(24, 7),
+        &[Word(48, 20)],
+    )?;
+    edits(
+        rt,
+        "ids in the order of ids",
+        Word(316, 20),
+        &[Word(48, 20)],
+    )
 }
 
-fn entry(x: u32) {
-    io::write_all(1, b" ");
-    io::print_decimal(1, x as u64);
-}
-
-fn show(t: &[u32]) {
-    let mut i: usize = 0;
-    while i < t.len() {
-        entry(t[i]);
-        i += 1;
+// A table of so many entries: the answer, and what is left in it.
+fn table(rt: &impl Print, label: &str, b: &[u8], entries: u32, t: &mut [u32]) -> io::Result<()> {
+    line(rt, label, entries, read(b, t))?;
+    for entry in t.iter() {
+        print!(rt; " {entry}")?;
     }
-    io::write_all(1, b"\n");
+    println!(rt; "")
 }
 
-// A table one entry short, one that fits, and one that is longer: the answer, and what is left in it.
-fn tables() {
-    let mut b = [0u8; 367];
-    base(&mut b);
-    let mut short = [7u32; 19];
-    line(b"table", 19, read(&b, &mut short));
-    show(&short);
-    let mut fit = [7u32; 20];
-    line(b"table", 20, read(&b, &mut fit));
-    show(&fit);
-    let mut long = [7u32; 22];
-    line(b"table", 22, read(&b, &mut long));
-    show(&long);
+// A table one entry short, one that fits, and one that is longer; and a BTF that is refused.
+fn tables(rt: &impl Print) -> io::Result<()> {
+    let mut b = base();
+    table(rt, "table", &b, 19, &mut [7u32; 19])?;
+    table(rt, "table", &b, 20, &mut [7u32; 20])?;
+    table(rt, "table", &b, 22, &mut [7u32; 22])?;
     put_u8(&mut b, 39, 3);
-    let mut kept = [7u32; 22];
-    line(b"table, refused", 22, read(&b, &mut kept));
-    show(&kept);
+    table(rt, "table, refused", &b, 22, &mut [7u32; 22])
 }
 
-fn main() {
-    header_start();
-    header_bytes();
-    header_sections();
-    long_header();
-    string_cases();
-    cut_first_types();
-    cut_more_types();
-    cut_last_types();
-    kind_cases();
-    info_cases();
-    encodings();
-    name_cases();
-    more_names();
-    id_cases();
-    chain_ids();
-    function_ids();
-    program_ids();
-    order_cases();
-    tables();
+fn main(rt: HostRuntime) -> io::Result<()> {
+    header_start(&rt)?;
+    header_bytes(&rt)?;
+    header_sections(&rt)?;
+    long_header(&rt)?;
+    string_cases(&rt)?;
+    cut_types(&rt)?;
+    kind_cases(&rt)?;
+    info_cases(&rt)?;
+    encodings(&rt)?;
+    name_cases(&rt)?;
+    more_names(&rt)?;
+    id_cases(&rt)?;
+    chain_ids(&rt)?;
+    function_ids(&rt)?;
+    program_ids(&rt)?;
+    order_cases(&rt)?;
+    tables(&rt)
 }

@@ -2,13 +2,11 @@
 // block byte for byte, and which do not.
 #![tactic(auto)]
 
-ghost use Rattle.std.specs.Prelude.{◌≤◌, IfOk};
-
 use btf_accept::{Whole, accept};
 use btf_view::Types;
 use call_block::put_tail;
 use call_relocate::relocate;
-use call_report::{Reported, report};
+use call_report::report;
 use rules::Said;
 use std::fs::File;
 use std::io;
@@ -24,15 +22,6 @@ const PART: usize = 65536;
 // So many of the cases that differ are named.
 const SHOWN: u32 = 10;
 
-// What came of one case.
-#[derive(Clone, Copy)]
-enum Compared {
-    Equal,
-    Different,
-    // the list ends early, or a part is too long
-    Broken,
-}
-
 // How many bytes the parts of a case have, and the function's section offset.
 #[derive(Clone, Copy)]
 struct Head {
@@ -44,65 +33,55 @@ struct Head {
     block: usize,
 }
 
-// The report of a call; nothing where a BTF was refused.
-fn put_report(
-    local: &[u8],
-    ltable: &[u32],
-    target: &[u8],
-    ttable: &[u32],
+// What a case gives the call beside the instructions.
+#[derive(Clone, Copy)]
+struct Case<'a> {
+    local: &'a [u8],
+    target: &'a [u8],
     section: u64,
-    records: &[u8],
-    said: Said,
-    out: &mut [u8],
-) -> u64 {
-    let Whole::Accepted(lbtf) = accept(local) else {
+    records: &'a [u8],
+}
+
+// The types of a BTF that is accepted, by the table that the call has filled.
+fn types_of<'a>(bytes: &'a [u8], table: &'a [u32]) -> Option<Types<'a>> {
+    let Whole::Accepted(btf) = accept(bytes) else {
+        return None;
+    };
+    Some(Types { bytes, table, btf })
+}
+
+// The report of a call; nothing where a BTF was refused.
+fn put_report(case: Case, ltable: &[u32], ttable: &[u32], said: Said, out: &mut [u8]) -> u64 {
+    let Some(local) = types_of(case.local, ltable) else {
         return 0;
     };
-    let Whole::Accepted(tbtf) = accept(target) else {
+    let Some(target) = types_of(case.target, ttable) else {
         return 0;
     };
-    let local = Types {
-        bytes: local,
-        table: ltable,
-        btf: lbtf,
-    };
-    let target = Types {
-        bytes: target,
-        table: ttable,
-        btf: tbtf,
-    };
-    let reported = report(&local, &target, section, records, said, out);
-    match reported {
-        Reported::Written(n) => n,
-        Reported::Needed(n) => n,
+    match report(&local, &target, case.section, case.records, said, out) {
+        Ok(written) => written,
+        Err(short) => short.needed,
     }
 }
 
 // The block of a case: the public call, its report, the outcome, the instructions left.
-fn put_block(
-    local: &[u8],
-    target: &[u8],
-    insns: &mut [u8],
-    section: u64,
-    records: &[u8],
-    out: &mut [u8],
-) -> u64 {
+fn put_block(case: Case, insns: &mut [u8], out: &mut [u8]) -> u64 {
     let mut ltable = [0u32; ENTRIES];
     let mut ttable = [0u32; ENTRIES];
     let said = relocate(
-        local,
+        case.local,
         &mut ltable,
-        target,
+        case.target,
         &mut ttable,
         insns,
-        section,
-        records,
+        case.section,
+        case.records,
     );
-    let at = put_report(local, &ltable, target, &ttable, section, records, said, out);
+    let at = put_report(case, &ltable, &ttable, said, out);
     put_tail(out, at, said, insns)
 }
 
-// Fills a buffer; says how many bytes were there, fewer where the list ends.
+// Fills a buffer; says how many bytes were there, fewer where the list ends: by `read_exact` that would be an error.
 fn read_full(list: &mut File, buffer: &mut [u8]) -> io::Result<usize> {
     let mut done = 0;
     while done < buffer.len() {
@@ -115,37 +94,24 @@ fn read_full(list: &mut File, buffer: &mut [u8]) -> io::Result<usize> {
     Ok(done)
 }
 
-// The bytes of a part, read into a buffer's front: whether they are all there.
-fn read_part(list: &mut File, buffer: &mut [u8], size: usize) -> io::Result<bool> {
+// The bytes of a part, read into a buffer's front; nothing where the list ends early or the part is too long.
+fn read_part<'a>(
+    list: &mut File,
+    buffer: &'a mut [u8],
+    size: usize,
+) -> io::Result<Option<&'a mut [u8]>> {
     if size > buffer.len() {
-        return Ok(false);
+        return Ok(None);
     }
-    let n = read_full(list, &mut buffer[..size])?;
-    Ok(n == size)
+    let part = &mut buffer[..size];
+    let n = read_full(list, part)?;
+    Ok(if n == size { Some(part) } else { None })
 }
 
-// The block of a case whose instructions take the front of a buffer, compared with the expected one.
-fn gives(
-    local: &[u8],
-    target: &[u8],
-    insns: &mut [u8],
-    size: usize,
-    section: u64,
-    records: &[u8],
-    block: &[u8],
-) -> bool {
-    if size > insns.len() {
-        return false;
-    }
+// Whether a case gives the expected block.
+fn gives(case: Case, insns: &mut [u8], block: &[u8]) -> bool {
     let mut out = [0u8; PART];
-    let n = put_block(
-        local,
-        target,
-        &mut insns[..size],
-        section,
-        records,
-        &mut out,
-    );
+    let n = put_block(case, insns, &mut out);
     part(&out, 0, n as usize) == block
 }
 
@@ -163,64 +129,47 @@ fn read_head(list: &mut File) -> io::Result<Head> {
     })
 }
 
-// The next case of a list.
-fn next_case(list: &mut File) -> io::Result<Compared> {
+// The next case of a list: whether it gives the expected block. One that cannot be read does not.
+fn next_case(list: &mut File) -> io::Result<bool> {
     let head = read_head(list)?;
     let mut local = [0u8; PART];
     let mut target = [0u8; PART];
     let mut insns = [0u8; PART];
     let mut records = [0u8; PART];
     let mut block = [0u8; PART];
-    if !read_part(list, &mut local, head.local)? {
-        return Ok(Compared::Broken);
-    }
-    if !read_part(list, &mut target, head.target)? {
-        return Ok(Compared::Broken);
-    }
-    if !read_part(list, &mut insns, head.insns)? {
-        return Ok(Compared::Broken);
-    }
-    if !read_part(list, &mut records, head.records)? {
-        return Ok(Compared::Broken);
-    }
-    if !read_part(list, &mut block, head.block)? {
-        return Ok(Compared::Broken);
-    }
-    let equal = gives(
-        part(&local, 0, head.local),
-        part(&target, 0, head.target),
-        &mut insns,
-        head.insns,
-        head.section,
-        part(&records, 0, head.records),
-        part(&block, 0, head.block),
-    );
-    Ok(if equal {
-        Compared::Equal
-    } else {
-        Compared::Different
-    })
+    let Some(local) = read_part(list, &mut local, head.local)? else {
+        return Ok(false);
+    };
+    let Some(target) = read_part(list, &mut target, head.target)? else {
+        return Ok(false);
+    };
+    let Some(insns) = read_part(list, &mut insns, head.insns)? else {
+        return Ok(false);
+    };
+    let Some(records) = read_part(list, &mut records, head.records)? else {
+        return Ok(false);
+    };
+    let Some(block) = read_part(list, &mut block, head.block)? else {
+        return Ok(false);
+    };
+    let case = Case {
+        local,
+        target,
+        section: head.section,
+        records,
+    };
+    Ok(gives(case, insns, block))
 }
 
-// Case i of a list, where `differ` others were not equal: 1 if it is equal.
-fn tell(rt: &impl Print, compared: Compared, i: u32, differ: u32) -> io::Result<u32>
-    ensures { IfOk result (λ n. n ≤ 1) }
-{
-    if let Compared::Equal = compared {
-        return Ok(1);
-    }
-    if differ < SHOWN {
-        println!(rt; "different={i}")?;
-    }
-    Ok(0)
-}
-
-// The cases of a list, one after the other: how many are equal.
+// The cases of a list, one after the other: how many are equal. The first that differ are named.
 fn replay(rt: &impl Print, list: &mut File, count: u32) -> io::Result<u32> {
     let mut equal: u32 = 0;
     for i in 0..count {
-        let compared = next_case(list)?;
-        equal += tell(rt, compared, i, i - equal)?;
+        if next_case(list)? {
+            equal += 1;
+        } else if i - equal < SHOWN {
+            println!(rt; "different={i}")?;
+        }
     }
     Ok(equal)
 }

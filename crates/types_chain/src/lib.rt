@@ -14,7 +14,7 @@ use btf_kinds::{
     BTF_KIND_UNION, BTF_KIND_VAR, has_size,
 };
 use btf_view::Types;
-use rules::{Compat, MAX_RESOLVE_DEPTH, Resolved, Sized, Why};
+use rules::{MAX_RESOLVE_DEPTH, Refusal, Unsized, Why};
 
 pub const POINTER_SIZE: u32 = 8;
 
@@ -51,30 +51,35 @@ fn sized_by_ref(kind: u32) -> bool
 }
 
 // The type that an id names, whatever qualifies it.
-pub fn resolve_type(types: &Types, id: u32) -> Resolved
+pub fn resolve_type(types: &Types, id: u32) -> Result<u32, Refusal>
     ensures { result ≡ resolve (lent types.now).typ id }
 {
     let mut at = id;
-    let mut left = MAX_RESOLVE_DEPTH;
-    while left > 0 {
+    for turn in 0..MAX_RESOLVE_DEPTH {
         if !is_modifier(types.kind_of(at)) {
-            return Resolved::At(at);
+            return Ok(at);
         }
         at = types.ref_of(at);
-        left -= 1;
     }
-    Resolved::Endless
+    Err(Refusal::Unresolved)
+}
+
+// That there is no size, why, and the id where it showed.
+fn no_size(why: Why, id: u32) -> Result<u32, Unsized>
+    ensures { result ≡ Err (record { why = why; id = id }) }
+{
+    Err(Unsized { why, id })
 }
 
 // n times a size, met at an id.
-fn product_of(id: u32, n: u32, size: u32) -> Sized
+fn product_of(id: u32, n: u32, size: u32) -> Result<u32, Unsized>
     ensures { result ≡ product id n size }
 {
     let all = (n as u64) * (size as u64);
     if all < SIZE_LIMIT {
-        Sized::Bytes(all as u32)
+        Ok(all as u32)
     } else {
-        Sized::Unsized(Why::ProductTooBig, id)
+        no_size(Why::ProductTooBig, id)
     }
 }
 
@@ -90,13 +95,12 @@ fn elements_of(types: &Types, id: u32, kind: u32, n: u32) -> u32
 }
 
 // How many bytes a type has; or why it has no size, and the id where that showed.
-pub fn type_size(types: &Types, id: u32) -> Sized
+pub fn type_size(types: &Types, id: u32) -> Result<u32, Unsized>
     ensures { result ≡ size_of (lent types.now).typ id }
 {
     let mut at = id;
     let mut n: u32 = 1;
-    let mut left = MAX_RESOLVE_DEPTH;
-    while left > 0 {
+    for turn in 0..MAX_RESOLVE_DEPTH {
         let kind = types.kind_of(at);
         if kind == BTF_KIND_PTR {
             return product_of(at, n, POINTER_SIZE);
@@ -105,13 +109,12 @@ pub fn type_size(types: &Types, id: u32) -> Sized
             return product_of(at, n, types.size_of(at));
         }
         if !sized_by_ref(kind) {
-            return Sized::Unsized(Why::KindWithoutSize, at);
+            return no_size(Why::KindWithoutSize, at);
         }
         n = elements_of(types, at, kind, n);
         at = types.ref_of(at);
-        left -= 1;
     }
-    Sized::Unsized(Why::ChainTooLong, at)
+    no_size(Why::ChainTooLong, at)
 }
 
 // Equal kinds; the two kinds of enum count as equal.
@@ -129,14 +132,8 @@ fn int_offset(extra: u32) -> u32
 }
 
 // Two INTs: compatible where neither has an offset.
-pub fn ints_agree(local: &Types, target: &Types, i: u32, j: u32) -> Compat
+pub fn ints_agree(local: &Types, target: &Types, i: u32, j: u32) -> bool
     ensures { result ≡ ints_agree ((lent local.now).typ i) ((lent target.now).typ j) }
 {
-    if int_offset(local.extra_of(i)) != 0 {
-        return Compat::Different;
-    }
-    if int_offset(target.extra_of(j)) != 0 {
-        return Compat::Different;
-    }
-    Compat::Compatible
+    int_offset(local.extra_of(i)) == 0 && int_offset(target.extra_of(j)) == 0
 }

@@ -11,7 +11,7 @@ ghost use Rattle.types_field_compat.specs.Names.{no_further, names_agree};
 
 use btf_kinds::{BTF_KIND_ARRAY, BTF_KIND_FLOAT, BTF_KIND_FWD, BTF_KIND_INT, BTF_KIND_PTR};
 use btf_view::Types;
-use rules::{Compat, MAX_RESOLVE_DEPTH, Resolved};
+use rules::{MAX_RESOLVE_DEPTH, Refusal};
 use types_chain::{ints_agree, is_composite, is_enum, kinds_alike, resolve_type};
 use types_names::same_named;
 
@@ -30,16 +30,12 @@ fn goes_by_name(kind: u32) -> bool
     forward || is_enum(kind)
 }
 
-// Two types' names: compatible where they are the same but for flavours.
-fn names_agree(local: &Types, target: &Types, i: u32, j: u32) -> Compat
+// Two types' names, the same but for flavours.
+fn names_agree(local: &Types, target: &Types, i: u32, j: u32) -> bool
     ensures { result ≡ names_agree (lent local.now) (lent target.now) i j }
 {
-    let l = local.text_of(local.name_of(i));
-    if same_named(l, target, target.name_of(j)) {
-        Compat::Compatible
-    } else {
-        Compat::Different
-    }
+    let name = local.text_of(local.name_of(i));
+    same_named(name, target, target.name_of(j))
 }
 
 // Two arrays.
@@ -50,50 +46,43 @@ fn are_arrays(local: &Types, target: &Types, i: u32, j: u32) -> bool
 }
 
 // Two fields' types without modifiers that are not both arrays.
-fn fields_meet(local: &Types, target: &Types, i: u32, j: u32) -> Compat
+#[tactic(auto, using(std::proofs::lemmas::Bool::Decides::nat_tests), unfolding(rules::specs::Types::meet_fields))]
+fn fields_meet(local: &Types, target: &Types, i: u32, j: u32) -> Result<bool, Refusal>
     ensures { result ≡ meet_fields no_further (lent local.now).text (lent target.now).text ((lent local.now).typ i)
         ((lent target.now).typ j) }
 {
     let kind = local.kind_of(i);
     let other = target.kind_of(j);
     if both_composite(kind, other) {
-        return Compat::Compatible;
+        return Ok(true);
     }
     if !kinds_alike(kind, other) {
-        return Compat::Different;
+        return Ok(false);
     }
     if goes_by_name(kind) {
-        return names_agree(local, target, i, j);
+        return Ok(names_agree(local, target, i, j));
     }
-    if kind == BTF_KIND_INT {
-        return ints_agree(local, target, i, j);
+    match kind {
+        BTF_KIND_INT => Ok(ints_agree(local, target, i, j)),
+        BTF_KIND_FLOAT | BTF_KIND_PTR => Ok(true),
+        _ => Err(Refusal::Unresolved),
     }
-    if kind == BTF_KIND_FLOAT || kind == BTF_KIND_PTR {
-        return Compat::Compatible;
-    }
-    Compat::Broken
 }
 
 // Whether two members may have these types.
-pub fn fields_are_compatible(local: &Types, target: &Types, a: u32, b: u32) -> Compat
+pub fn fields_are_compatible(local: &Types, target: &Types, a: u32, b: u32) -> Result<bool, Refusal>
     ensures { result ≡ fields_compatible (lent local.now) (lent target.now) a b }
 {
     let mut u = a;
     let mut v = b;
-    let mut left = MAX_RESOLVE_DEPTH;
-    while left > 0 {
-        let Resolved::At(i) = resolve_type(local, u) else {
-            return Compat::Broken;
-        };
-        let Resolved::At(j) = resolve_type(target, v) else {
-            return Compat::Broken;
-        };
+    for turn in 0..MAX_RESOLVE_DEPTH {
+        let i = resolve_type(local, u)?;
+        let j = resolve_type(target, v)?;
         if !are_arrays(local, target, i, j) {
             return fields_meet(local, target, i, j);
         }
         u = local.ref_of(i);
         v = target.ref_of(j);
-        left -= 1;
     }
-    Compat::Broken
+    Err(Refusal::Unresolved)
 }

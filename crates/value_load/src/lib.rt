@@ -2,16 +2,15 @@
 // offset get an answer.
 #![tactic(auto)]
 
-ghost use Rattle.std.specs.Prelude.{◌≡◌, ◌<◌};
-ghost use Rattle.std.proofs.Math.Option.{some};
+ghost use Rattle.std.specs.Prelude.{◌≡◌, ◌<◌, Some};
 ghost use Rattle.btf_view.specs.Lent.{lent};
 ghost use Rattle.rules.specs.Types.{own_size};
 ghost use Rattle.rules.specs.Value.{bitfield, signedness, plain_load};
-ghost use Rattle.value_load.specs.Replies.{load_of, Aligned};
+ghost use Rattle.value_load.specs.Aligned.{Aligned};
 
 use btf_kinds::{BTF_KIND_INT, BTF_KIND_PTR, has_size};
 use btf_view::Types;
-use rules::Load;
+use rules::{Load, Refusal};
 use types_chain::{POINTER_SIZE, is_enum};
 
 // The bit of an INT's encoding word that says signed.
@@ -22,13 +21,6 @@ const WIDEST: u64 = 8;
 
 const TRIES: u32 = 4;
 
-// How a bitfield is loaded, if it can be.
-#[derive(Clone, Copy)]
-pub enum Loaded {
-    By(Load),
-    Nowhere,
-}
-
 // Where the `size` bytes that hold a bit begin, on a multiple of `size`.
 fn aligned_to(bits: u64, size: u64) -> u64
     requires { 0 < size }
@@ -38,36 +30,34 @@ fn aligned_to(bits: u64, size: u64) -> u64
 }
 
 // The smallest of `size`, twice that, .. bytes that hold a bitfield.
-fn bitfield_load(bits: u64, width: u32, size: u32) -> Loaded
-    ensures { load_of result ≡ bitfield bits width (some size) }
+fn bitfield_load(bits: u64, width: u32, size: u32) -> Result<Load, Refusal>
+    ensures { result ≡ bitfield bits width (Some size) }
 {
     if size == 0 {
-        return Loaded::Nowhere;
+        return Err(Refusal::Unresolved);
     }
     let wide = width as u64;
     let mut s = size as u64;
-    let mut left = TRIES;
-    while left > 0 {
+    for turn in 0..TRIES {
         let offset = aligned_to(bits, s);
         if bits - 8 * offset + wide <= 8 * s {
-            return Loaded::By(Load {
+            return Ok(Load {
                 offset,
                 size: s,
                 width: wide,
             });
         }
         if s >= WIDEST {
-            return Loaded::Nowhere;
+            return Err(Refusal::Unresolved);
         }
         s = 2 * s;
-        left -= 1;
     }
-    Loaded::Nowhere
+    Err(Refusal::Unresolved)
 }
 
 // A bitfield of a type begins with the type's own size.
-pub fn bitfield_of(types: &Types, id: u32, bits: u64, width: u32) -> Loaded
-    ensures { load_of result ≡ bitfield bits width (own_size ((lent types.now).typ id)) }
+pub fn bitfield_of(types: &Types, id: u32, bits: u64, width: u32) -> Result<Load, Refusal>
+    ensures { result ≡ bitfield bits width (own_size ((lent types.now).typ id)) }
 {
     let kind = types.kind_of(id);
     if kind == BTF_KIND_PTR {
@@ -76,21 +66,22 @@ pub fn bitfield_of(types: &Types, id: u32, bits: u64, width: u32) -> Loaded
     if has_size(kind) {
         return bitfield_load(bits, width, types.size_of(id));
     }
-    Loaded::Nowhere
+    Err(Refusal::Unresolved)
 }
 
 // 1 for a signed INT or enum.
+#[tactic(auto, unfolding(rules::specs::Value::signedness))]
 pub fn signedness_of(types: &Types, id: u32) -> u64
     ensures { result ≡ signedness ((lent types.now).typ id) }
 {
     let kind = types.kind_of(id);
     if kind == BTF_KIND_INT {
-        return (types.extra_of(id) / INT_SIGNED % 2) as u64;
+        (types.extra_of(id) / INT_SIGNED % 2) as u64
+    } else if is_enum(kind) && types.flag_of(id) == 1 {
+        1
+    } else {
+        0
     }
-    if !is_enum(kind) {
-        return 0;
-    }
-    if types.flag_of(id) == 1 { 1 } else { 0 }
 }
 
 // How a plain field of `size` bytes is loaded.

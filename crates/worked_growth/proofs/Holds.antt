@@ -3,7 +3,6 @@ use Prim.Native.Nat.{ℕ}
 use mathlib.Core.Path.{◌≡◌, ap, ◌∙◌}
 use mathlib.Core.List.{List, [], ◌++◌}
 use native.Mathlib.Omega.{arith}
-use mathlib.Core.Option.{Option}
 use Rattle.btf_accept.specs.declared.Btf.{Btf}
 use Rattle.rules.specs.declared.Refusal.{Refusal}
 use Rattle.rules.specs.declared.Record.{Record}
@@ -15,6 +14,7 @@ use Rattle.law_growth.proofs.One.{none-harmful}
 use Rattle.law_growth.proofs.Proved.{demand3, demand3_call}
 use Rattle.worked_growth.specs.Worked.{mine, old, more_names, old_sections, insns, other_valued, list, grown_by, Example}
 use Rattle.worked_growth.proofs.Computed.{worked, worked_calls}
+use Rattle.std.specs.Prelude.{Option}
 
 module _ {s' : List ℕ} {places : Btf} {more : List ℕ} {r : Record} {before : Answer} {left ids : List ℕ} {owed : Option Refusal} {after : Answer} {left' : List ℕ}
     (e : Example s' places more r before left ids owed after left') where

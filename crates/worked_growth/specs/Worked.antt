@@ -1,6 +1,5 @@
 -- Demand 3 on small BTFs (docs/DEMAND-3.md tells them as C): an extension that changes nothing, and one of each exception.
-use Rattle.std.specs.Prelude.{ℕ, ◌^◌, ◌≡◌, true, false, List, [], ◌∷◌, ◌++◌}
-use Rattle.std.proofs.Math.Option.{Option, none, some}
+use Rattle.std.specs.Prelude.{ℕ, ◌^◌, ◌≡◌, true, false, List, [], ◌∷◌, ◌++◌, None, Option, Some}
 use Rattle.btf_accept.specs.declared.Btf.{Btf}
 use Rattle.btf_accept.specs.declared.Whole.TheVariants.{Accepted}
 use Rattle.btf_accept.specs.Sections.{types_in, strings_in}
@@ -160,57 +159,57 @@ grown_by more = btf (old_types ++ more) (old_names ++ more_names)
 
 -- Nothing changes: the extension adds a candidate, with the same member at the same place
 abbrev pub Same : Type 0
-Same = Example (btf_otherwise (old_types ++ same_again) (old_names ++ more_names)) (sections 73 196 28 43 8) same_again offset_of_b (Applied 4) (imm 4) [] none
+Same = Example (btf_otherwise (old_types ++ same_again) (old_names ++ more_names)) (sections 73 196 28 43 8) same_again offset_of_b (Applied 4) (imm 4) [] None
     (Applied 4) (imm 4)
 
 -- Another bit offset: both targets have s.b, and still it is a conflict
 abbrev pub OtherBits : Type 0
-OtherBits = Example (grown_by turned) (sections 24 180 204 43 7) turned exists_b (Applied 1) (imm 1) (7 ∷ []) (some (Conflict 7 1)) (Refused (Conflict 7 1)) insns
+OtherBits = Example (grown_by turned) (sections 24 180 204 43 7) turned exists_b (Applied 1) (imm 1) (7 ∷ []) (Some (Conflict 7 1)) (Refused (Conflict 7 1)) insns
 
 -- Another value at the same bit offset
 abbrev pub OtherValue : Type 0
-OtherValue = Example (grown_by other_valued) (sections 24 164 188 43 7) other_valued value_of_x (Applied 7) (imm 7) (7 ∷ []) (some (Conflict 7 1))
+OtherValue = Example (grown_by other_valued) (sections 24 164 188 43 7) other_valued value_of_x (Applied 7) (imm 7) (7 ∷ []) (Some (Conflict 7 1))
     (Refused (Conflict 7 1)) insns
 
 -- Two of them are counted, the first is named
 abbrev pub TwoOthers : Type 0
-TwoOthers = Example (grown_by twice) (sections 24 216 240 43 8) twice offset_of_b (Applied 4) (imm 4) (7 ∷ 8 ∷ []) (some (Conflict 7 2))
+TwoOthers = Example (grown_by twice) (sections 24 216 240 43 8) twice offset_of_b (Applied 4) (imm 4) (7 ∷ 8 ∷ []) (Some (Conflict 7 2))
     (Refused (Conflict 7 2)) insns
 
 -- A candidate that causes a refusal: 14, 16, 17, 11
 abbrev pub Gives14 : Type 0
-Gives14 = Example (grown_by endless) (sections 24 192 216 43 8) endless offset_of_b (Applied 4) (imm 4) (8 ∷ []) (some Unresolved) (Refused Unresolved) insns
+Gives14 = Example (grown_by endless) (sections 24 192 216 43 8) endless offset_of_b (Applied 4) (imm 4) (8 ∷ []) (Some Unresolved) (Refused Unresolved) insns
 
 abbrev pub Gives16 : Type 0
-Gives16 = Example (grown_by far_away) (sections 24 192 216 43 8) far_away offset_of_b (Applied 4) (imm 4) (8 ∷ []) (some BitsTooBig) (Refused BitsTooBig) insns
+Gives16 = Example (grown_by far_away) (sections 24 192 216 43 8) far_away offset_of_b (Applied 4) (imm 4) (8 ∷ []) (Some BitsTooBig) (Refused BitsTooBig) insns
 
 abbrev pub Gives17 : Type 0
-Gives17 = Example (grown_by deep) (sections 24 168 192 43 7) deep offset_of_b (Applied 4) (imm 4) (7 ∷ []) (some TooDeep) (Refused TooDeep) insns
+Gives17 = Example (grown_by deep) (sections 24 168 192 43 7) deep offset_of_b (Applied 4) (imm 4) (7 ∷ []) (Some TooDeep) (Refused TooDeep) insns
 
 abbrev pub Gives11 : Type 0
-Gives11 = Example (grown_by long) (sections 24 216 240 43 9) long offset_of_deep_x (Applied 0) (imm 0) (7 ∷ []) (some (MaximumNesting 7))
+Gives11 = Example (grown_by long) (sections 24 216 240 43 9) long offset_of_deep_x (Applied 0) (imm 0) (7 ∷ []) (Some (MaximumNesting 7))
     (Refused (MaximumNesting 7)) insns
 
 -- A candidate's own refusal comes before a conflict, though the conflict stands before it
 abbrev pub ConflictThen14 : Type 0
-ConflictThen14 = Example (grown_by later) (sections 24 228 252 43 9) later offset_of_b (Applied 4) (imm 4) (7 ∷ 9 ∷ []) (some Unresolved)
+ConflictThen14 = Example (grown_by later) (sections 24 228 252 43 9) later offset_of_b (Applied 4) (imm 4) (7 ∷ 9 ∷ []) (Some Unresolved)
     (Refused Unresolved) insns
 
 -- The first match has no value: a later one that has one harms nothing
 abbrev pub NoValue : Type 0
-NoValue = Example (grown_by valueless) (sections 24 192 216 43 8) valueless offset_of_v Poisoned poisoned_insn [] none Poisoned poisoned_insn
+NoValue = Example (grown_by valueless) (sections 24 192 216 43 8) valueless offset_of_v Poisoned poisoned_insn [] None Poisoned poisoned_insn
 
 -- A type as a whole: it exists still; but with two that match there are two ids
 abbrev pub StillExists : Type 0
-StillExists = Example (grown_by same_again) (sections 24 196 220 43 8) same_again exists_s (Applied 1) (imm 1) [] none (Applied 1) (imm 1)
+StillExists = Example (grown_by same_again) (sections 24 196 220 43 8) same_again exists_s (Applied 1) (imm 1) [] None (Applied 1) (imm 1)
 
 abbrev pub OtherId : Type 0
-OtherId = Example (grown_by same_again) (sections 24 196 220 43 8) same_again target_id_of_s (Applied 2) (imm 2) (7 ∷ []) (some (Conflict 7 1))
+OtherId = Example (grown_by same_again) (sections 24 196 220 43 8) same_again target_id_of_s (Applied 2) (imm 2) (7 ∷ []) (Some (Conflict 7 1))
     (Refused (Conflict 7 1)) insns
 
 -- `TypeIdLocal` looks at no target, whatever is there
 abbrev pub OwnId : Type 0
-OwnId = Example (grown_by turned) (sections 24 180 204 43 7) turned id_of_s (Applied 2) (imm 2) [] none (Applied 2) (imm 2)
+OwnId = Example (grown_by turned) (sections 24 180 204 43 7) turned id_of_s (Applied 2) (imm 2) [] None (Applied 2) (imm 2)
 
 pub record Worked : Type 0 where
   pub old_is_btf : Accepted old_sections ≡ accepted old

@@ -7,20 +7,18 @@ use mathlib.Core.List.{List, [], ◌∷◌, ◌++◌}
 use Rattle.btf_kinds.specs.Kinds.{has_size}
 use Rattle.btf_view.specs.Text.{text_at, cut}
 use Rattle.btf_view.specs.View.{View}
-use Rattle.rules.specs.declared.Resolved.TheVariants.{At}
 use Rattle.rules.specs.declared.Why.TheVariants.{KindWithoutSize}
-use Rattle.rules.specs.declared.Sized.TheVariants.{Bytes, Unsized}
-use Rattle.rules.specs.declared.Compat.TheVariants.{Compatible, Different}
-use Rattle.rules.specs.declared.Search.TheVariants.{Found}
 use Rattle.btf_kinds.specs.Names.{PTR}
-use Rattle.rules.specs.Refusal.{ok}
-use Rattle.rules.specs.Types.{resolve, chain, size_of, elements, flavourless, same_text, types_compatible, types_within, meet, fields_compatible, fields_within, meet_fields}
-use Rattle.rules.specs.Access.{member, element, last_from, local_first_bits, local_open, local_member, element_bits, local_element, local_step, local_steps, first_bits, local_walk}
+use Rattle.rules.specs.Types.{resolve, chain, size_of, elements, flavourless, same_text, types_compatible, types_within, meet, fields_compatible}
+use Rattle.rules.specs.Types.{fields_within, meet_fields}
+use Rattle.rules.specs.Access.{member, element, last_from, local_first_bits, local_open, local_member, element_bits, local_element, local_step}
+use Rattle.rules.specs.Access.{local_steps, first_bits, local_walk}
 use Rattle.rules.specs.declared.Refusal.TheVariants.{NoSuccessor}
 use Rattle.rules.specs.declared.Write.TheVariants.{Poison}
 use Rattle.rules.specs.Apply.{done, stopped, code, poisoned, also_next, poison, patch_front, patch}
 use Rattle.rules.specs.Matching.{is_candidate, field_match, target_steps, target_step, target_member, search, level, at_element}
 use Rattle.worked_rules.specs.Make.{listed, int_of, struct, array_of, to, view_from}
+use Rattle.std.specs.Prelude.{Err, Ok, Some, false}
 
 -- struct a { int x; struct b { int y; struct { int z[4]; }; } s; };
 --   1 int; 2 struct a; 3 struct b; 4 the unnamed struct; 5 int[4]; 6 int[2][4]; 7 const struct a; 8 struct a *
@@ -31,12 +29,12 @@ A = view_from (
     ) (0 ∷ 97 ∷ 0 ∷ 120 ∷ 0 ∷ 115 ∷ 0 ∷ 98 ∷ 0 ∷ 121 ∷ 0 ∷ 122 ∷ 0 ∷ [])
 
 -- const struct a is struct a.
-pub chains : resolve A.typ 7 ≡ At 2
+pub chains : resolve A.typ 7 ≡ Ok 2
 unfolding resolve chain
 chains = refl
 
 -- It has 24 bytes; int[2][4] has 16, as the crate counts; void has no size.
-pub sizes : (size_of A.typ 7 ≡ Bytes 24) × (size_of A.typ 6 ≡ Bytes 16) × (size_of A.typ 0 ≡ Unsized KindWithoutSize 0)
+pub sizes : (size_of A.typ 7 ≡ Ok 24) × (size_of A.typ 6 ≡ Ok 16) × (size_of A.typ 0 ≡ Err (record { why = KindWithoutSize; id = 0 }))
 unfolding size_of elements has_size
 sizes = (refl, refl, refl)
 
@@ -47,7 +45,7 @@ flavours = (refl, refl)
 
 -- "0:1:1:0:2" on a: [0], .s, .z, [2], at bit 32 + 32 + 0 + 64
 pub walk : local_walk A.typ 2 (0 ∷ 1 ∷ 1 ∷ 0 ∷ 2 ∷ [])
-    ≡ ok (record { typ = 1; path = element 2 0 ∷ member 2 1 ∷ member 4 0 ∷ element 1 2 ∷ []; bits = 128 })
+    ≡ Ok (record { typ = 1; path = element 2 0 ∷ member 2 1 ∷ member 4 0 ∷ element 1 2 ∷ []; bits = 128 })
 unfolding local_walk first_bits local_steps local_step local_member local_element element_bits local_open local_first_bits last_from resolve chain size_of elements has_size
 walk = refl
 
@@ -68,12 +66,12 @@ unfolding is_candidate same_text flavourless text_at cut
 candidate = refl
 
 -- y of a, in a___v2: at bit 32 of the unnamed struct at bit 32; three parts
-pub match : field_match B C (element 2 0 ∷ member 2 1 ∷ []) 4 ≡ Found (record { typ = 1; last = member 3 1; bits = 64; parts = 3 })
+pub match : field_match B C (element 2 0 ∷ member 2 1 ∷ []) 4 ≡ Ok (Some (record { typ = 1; last = member 3 1; bits = 64; parts = 3 }))
 unfolding field_match target_steps target_step target_member search level at_element element_bits resolve chain size_of elements same_text fields_compatible fields_within meet_fields text_at cut has_size
 match = refl
 
 -- A struct is compatible with any struct, and not with a pointer.
-pub compatible : (types_compatible A.typ C.typ 7 4 ≡ Compatible) × (types_compatible A.typ A.typ 2 8 ≡ Different)
+pub compatible : (types_compatible A.typ C.typ 7 4 ≡ Ok true) × (types_compatible A.typ A.typ 2 8 ≡ Ok false)
 unfolding types_compatible types_within meet resolve chain
 compatible = (refl, refl)
 

@@ -1,14 +1,12 @@
 -- Document 01, section 8: the cases marked * as a list of rows, under one statement: every row holds.
 -- Assumes nothing.
-use Rattle.std.specs.Prelude.{ℕ, ◌≡◌, List, [], ◌∷◌}
+use Rattle.std.specs.Prelude.{ℕ, ◌≡◌, List, [], ◌∷◌, Err, Ok, Some}
 use Rattle.btf_kinds.specs.declared.Entry.{Entry}
 use Rattle.btf_kinds.specs.Types.{Ty}
 use Rattle.rules.specs.declared.Refusal.TheVariants.{BadAccess, BadInstruction}
-use Rattle.rules.specs.declared.Typing.TheVariants.{Typed}
 use Rattle.rules.specs.declared.Value.{Value}
-use Rattle.rules.specs.declared.Worth.TheVariants.{Known}
 use Rattle.rules.specs.Kinds.{field_byte_offset, field_byte_size, field_lshift, field_rshift}
-use Rattle.rules.specs.Refusal.{Reply, ok, refused}
+use Rattle.rules.specs.Refusal.{Reply}
 use Rattle.rules.specs.Access.{parse}
 use Rattle.rules.specs.Value.{plain, member_value, variant_value}
 use Rattle.rules.specs.Apply.{Patch, done, stopped, patch}
@@ -29,7 +27,7 @@ pub data Row : Type 0 where
 abbrev pub Holds : Row → Type 0
 Holds (parts text is) = parse text ≡ is
 Holds (bitfield bits width k is) = member_value types k bits width 1 ≡ is
-Holds (insn xs mine theirs is) = patch xs 0 (writing types types mine (Known theirs)) ≡ is
+Holds (insn xs mine theirs is) = patch xs 0 (writing types types mine (Some theirs)) ≡ is
 
 -- Every row of a list
 abbrev pub Every : List Row → Type 0
@@ -38,7 +36,7 @@ Every (r ∷ rs) = Holds r × Every rs
 
 -- A value that is compared by its size and type
 abbrev pub sized_value : ℕ → ℕ → ℕ → Value
-sized_value n s t = record { number = n; size = s; typ = Typed t }
+sized_value n s t = record { number = n; size = s; typ = Some t }
 
 -- The value of the variant 0xFFFFFFFF of a signed enum, -1, and of an unsigned one
 abbrev pub ones : Entry
@@ -63,19 +61,19 @@ wide a b = 0x18 ∷ 1 ∷ 0 ∷ 0 ∷ a ∷ a ∷ a ∷ a ∷ 0 ∷ 0 ∷ 0 ∷ 
 abbrev pub rows : List Row
 rows =
     -- `0:1` is 0, 1; `+2` is 2; empty is 7; `0::1` is 7
-    parts (48 ∷ 58 ∷ 49 ∷ []) (ok (0 ∷ 1 ∷ []))
-    ∷ parts (43 ∷ 50 ∷ []) (ok (2 ∷ []))
-    ∷ parts [] (refused BadAccess)
-    ∷ parts (48 ∷ 58 ∷ 58 ∷ 49 ∷ []) (refused BadAccess)
+    parts (48 ∷ 58 ∷ 49 ∷ []) (Ok (0 ∷ 1 ∷ []))
+    ∷ parts (43 ∷ 50 ∷ []) (Ok (2 ∷ []))
+    ∷ parts [] (Err BadAccess)
+    ∷ parts (48 ∷ 58 ∷ 58 ∷ 49 ∷ []) (Err BadAccess)
     -- bits 35, size 5, 4-byte type: offset 4, left 56, right 59
-    ∷ bitfield 35 5 field_byte_offset (ok (plain 4))
-    ∷ bitfield 35 5 field_lshift (ok (plain 56))
-    ∷ bitfield 35 5 field_rshift (ok (plain 59))
+    ∷ bitfield 35 5 field_byte_offset (Ok (plain 4))
+    ∷ bitfield 35 5 field_lshift (Ok (plain 56))
+    ∷ bitfield 35 5 field_rshift (Ok (plain 59))
     -- bits 30, size 4: offset 0, size 8, left 30, right 60
-    ∷ bitfield 30 4 field_byte_offset (ok (plain 0))
-    ∷ bitfield 30 4 field_byte_size (ok (plain 8))
-    ∷ bitfield 30 4 field_lshift (ok (plain 30))
-    ∷ bitfield 30 4 field_rshift (ok (plain 60))
+    ∷ bitfield 30 4 field_byte_offset (Ok (plain 0))
+    ∷ bitfield 30 4 field_byte_size (Ok (plain 8))
+    ∷ bitfield 30 4 field_lshift (Ok (plain 30))
+    ∷ bitfield 30 4 field_rshift (Ok (plain 60))
     -- `b7 01 00 00 04 00 00 00`, value 16: imm 16; `b7 11 ..`: reason 1
     ∷ insn (move 0x01 4) (plain 0) (plain 16) (done (move 0x01 16))
     ∷ insn (move 0x11 4) (plain 0) (plain 16) (stopped (BadInstruction 1) (move 0x11 4))

@@ -1,43 +1,61 @@
 -- `access_text::parse_access` meets its contract.
-use mathlib.Core.Path.{sym, ap, ◌∙◌}
-use Prim.Native.Nat.{◌≤◌}
+use mathlib.Core.Path.{◌≡◌}
+use Prim.Native.Nat.{◌<◌, ◌≤◌}
 use native.Mathlib.Omega.{arith}
-use lib.ListN.{length}
-use Rattle.access_text.specs.Replies.{number_in}
-use Rattle.access_text.proofs.Colons.{colon_inside}
-use Rattle.access_text.proofs.Parts.{begin, more, bad, good, many}
+use borrow.Author.Rules.{rules}
+use borrow.Author.Tests.{tests}
+use lib.ListN.{length, get_or}
+use Rattle.std.proofs.lemmas.Iterator.Consumers.{YieldsList-turn, YieldsList-end}
+use Rattle.std.proofs.lemmas.Iterator.Splits.{YieldsList-from_slice_split}
+use Rattle.std.proofs.lemmas.Grind.{common_steps}
+use Rattle.std.proofs.lemmas.List.{length_push}
+use Rattle.rules.specs.Access.{split}
+use Rattle.access_text.proofs.Parts.{colon, split_same, begin, bad, more, past, good, many}
 use Rattle.access_text.proofs.parse_access.Goals as goal
-use Rattle.access_text.proofs.parse_access.Goals.{After-part_end-end}
+use Rattle.access_text.proofs.parse_access.Goals.{In-Some, In-None}
 
--- the part that begins here ends inside
-end : (c : After-part_end-end) → c.part_end-end.result ≤ length c.args.text.now
-end c = colon_inside _ c.loop-at.at _ c.loop-at-test.true c.part_end-end.ensures
+-- the loop's next part is that of the rules
+one : (c : In-Some) →
+    let ps = split c.args.text.now in
+    let n = length c.loop-one.yielded in
+    (n < length ps) × (c.in-Some.one.now ≡ get_or ps n c.in-Some.one.now)
+one c =
+    let t = YieldsList-turn
+    (YieldsList-from_slice_split {s = c.into_iter-one-iterator.result} _ colon c.args.text.now
+    (search rules) (search rules) (search rules) (λ x r q k. search (rules, tests)))
+    c.loop-one.yielded _ c.loop-one.yielded_by _ _ c.in-Some.one c.in-Some.is c.next.ensures.steps in
+    rw split_same at t
 
-pub loop-at-init : goal.loop-at-init
-loop-at-init c = begin _
+-- the loop ends with the rules' parts
+none : (c : In-None) → length (split c.args.text.now) ≤ length c.loop-one.yielded
+none c =
+    let t = YieldsList-end
+    (YieldsList-from_slice_split {s = c.into_iter-one-iterator.result} _ colon c.args.text.now
+    (search rules) (search rules) (search rules) (λ x r q k. search (rules, tests)))
+    c.loop-one.yielded _ c.loop-one.yielded_by _ _ c.in-None.is c.next.ensures.steps in
+    omega (arith, rw split_same at t.1)
 
-pub slice_bounds-part_of-end : goal.slice_bounds-part_of-end
-slice_bounds-part_of-end c = end (goal.at.slice_bounds-part_of-end c).After-part_end-end
+pub loop-one-init : goal.loop-one-init
+loop-one-init c = rw c.new-parts.ensures (begin _)
 
-pub returns-in_default : goal.returns-in_default
-returns-in_default c =
-    rw c.no_parts.ensures
-    (bad c.loop-at.invariant c.loop-at-test.true c.part_end-end.ensures (sym (ap number_in c.in_default.is) ∙ c.part_of-one.ensures))
+pub returns-in_err-number : goal.returns-in_err-number
+returns-in_err-number c =
+    let b = bad c.loop-one.invariant (one (goal.at.returns-in_err-number c).In-Some) (grind (arith, common_steps)) in
+    grind (arith, common_steps)
 
-pub overflow_add-count : goal.overflow_add-count
-overflow_add-count c = omega (arith, c.loop-at.invariant.few)
+pub loop-one-preserved-then-not-too_many : goal.loop-one-preserved-then-not-too_many
+loop-one-preserved-then-not-too_many c =
+    let t = one (goal.at.loop-one-preserved-then-not-too_many c).In-Some in
+    rw (length_push, c.push.ensures.items)
+    (more c.loop-one.invariant t c.in_ok-number.number (grind (arith, common_steps)) c.is_full-too_many.ensures.value c.if-not-too_many.true)
 
-pub overflow_add-at : goal.overflow_add-at
-overflow_add-at c = omega (arith, end (goal.at.overflow_add-at c).After-part_end-end)
-
-pub loop-at-smaller : goal.loop-at-smaller
-loop-at-smaller c = omega (arith, end (goal.at.loop-at-smaller c).After-part_end-end, c.part_end-end.ensures)
-
-pub loop-at-preserved : goal.loop-at-preserved
-loop-at-preserved c = more c.loop-at.invariant c.loop-at-test.true c.part_end-end.ensures (sym (ap number_in c.in-Number.is) ∙ c.part_of-one.ensures) c.keep.ensures
+pub loop-one-preserved : goal.loop-one-preserved
+loop-one-preserved c =
+    let t = one (goal.at.loop-one-preserved c).In-Some in
+    rw length_push (past c.loop-one.invariant t c.in_ok-number.number (grind (arith, common_steps)) c.is_full-too_many.ensures.value c.if-not-too_many.false)
 
 pub returns-then-too_many : goal.returns-then-too_many
-returns-then-too_many c = rw c.no_parts-then-too_many.ensures (many c.loop-at.invariant c.loop-at-test.false c.if-too_many.true)
+returns-then-too_many c = many c.loop-one.invariant (none (goal.at.returns-then-too_many c).In-None) (search rules)
 
 pub returns : goal.returns
-returns c = good c.loop-at.invariant c.loop-at-test.false c.if-too_many.false
+returns c = good c.loop-one.invariant (none (goal.at.returns c).In-None) (search rules)

@@ -1,11 +1,7 @@
 -- The loop of `access_text::parse_access`.
-use Prim.Native.Nat.{◌+◌, ◌-◌}
 use lib.ListN.{length}
 use Rattle.access_text.proofs.Parts.{Going}
 use Rattle.access_text.proofs.parse_access.Given as goal
 
-abbrev pub invariant-loop-at : goal.invariant-loop-at
-invariant-loop-at l = Going l.text l.parts l.count l.at
-
-abbrev pub decreases-loop-at : goal.decreases-loop-at
-decreases-loop-at l = length l.text + 1 - l.at
+abbrev pub invariant-loop-one : goal.invariant-loop-one
+invariant-loop-one l = Going l.text l.parts.items l.too_many (length l.yielded)

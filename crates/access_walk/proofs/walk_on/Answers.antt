@@ -1,40 +1,31 @@
 -- `access_walk::walk_on` meets its contract.
-use mathlib.Core.Path.{sym, ap, ◌∙◌}
+use mathlib.Core.Path.{refl, sym, ap, ◌∙◌}
 use native.Mathlib.Omega.{arith}
-use Rattle.access_text.proofs.Counting.{counted-long, counted-at}
-use Rattle.access_step.specs.Replies.{step_of}
-use Rattle.access_walk.specs.Replies.{Room}
-use Rattle.access_walk.proofs.Walking.{stepping-first, roomy, stepping-on, stepping-no, stepping-ends}
+use borrow.Author.Rules.{rules}
+use lib.ListN.{length}
+use Rattle.std.proofs.lemmas.Grind.{common_steps}
+use Rattle.rules.specs.Access as A
+use Rattle.access_walk.specs.Replies.{walk_of}
+use Rattle.access_walk.proofs.Walking.{walk_on, walk_refused, walk_ends, onward-more}
 use Rattle.access_walk.proofs.walk_on.Goals as goal
-use Rattle.access_walk.proofs.walk_on.Goals.{In-loop-i}
 
--- in a turn there is a part, and room for one accessor more
-room : (c : In-loop-i) → Room c.loop-i.walk
-room c = roomy c.loop-i.invariant (omega (arith, c.count_in-count.ensures.few))
+pub returns-in_err-step : goal.returns-in_err-step
+returns-in_err-step c =
+    let l = c.loop-part in
+    let e = walk_refused _ (walk_of l.walk) c.args.parts.now l.part-index c.loop-part-test.true (search rules) refl c.next_step.ensures _ c.in_err-step.was in
+    grind (arith, common_steps)
 
-pub loop-i-init : goal.loop-i-init
-loop-i-init c = stepping-first _ _ _ _ _ c.begin-walk.ensures
-
-pub parent_of-parent-requires : goal.parent_of-parent-requires
-parent_of-parent-requires c = room (goal.at.parent_of-parent-requires c).In-loop-i
-
-pub returns-in-Refused : goal.returns-in-Refused
-returns-in-Refused c =
-    let n = c.count_in-count.ensures in
-    rw (← n.all)
-    (c.refuse.ensures ∙ stepping-no c.loop-i.invariant (omega (arith, counted-long n)) c.parent_of-parent.ensures (counted-at n _ c.loop-i-test.true)
-    (sym (ap step_of c.in-Refused.is) ∙ c.next_step-s.ensures))
-
-pub further-walk-requires : goal.further-walk-requires
-further-walk-requires c = room (goal.at.further-walk-requires c).In-loop-i
-
-pub loop-i-preserved : goal.loop-i-preserved
-loop-i-preserved c =
-    let n = c.count_in-count.ensures in
-    stepping-on c.loop-i.invariant (omega (arith, counted-long n)) c.parent_of-parent.ensures (counted-at n _ c.loop-i-test.true)
-    (sym (ap step_of c.in-To.is) ∙ c.next_step-s.ensures) c.further-walk.ensures
+pub loop-part-preserved : goal.loop-part-preserved
+loop-part-preserved c =
+    let l = c.loop-part in
+    let e = walk_on _ (walk_of l.walk) c.args.parts.now l.part-index c.loop-part-test.true (search rules) refl c.next_step.ensures _ c.in_ok-step.was in
+    let n = ap (λ (w : A.Walk). length w.path) c.further.ensures in
+    record {
+      few = omega (arith, n, onward-more l.walk.path.items c.in_ok-step.step.by, l.invariant.few);
+      rest = rw c.further.ensures (sym e ∙ l.invariant.rest);
+    }
 
 pub returns : goal.returns
 returns c =
-    let n = c.count_in-count.ensures in
-    rw (← n.all) (stepping-ends c.loop-i.invariant (omega (arith, counted-long n, c.loop-i-test.false)))
+    let l = c.loop-part in
+    sym (walk_ends _ (walk_of l.walk) c.args.parts.now l.part-index c.loop-part-test.false) ∙ l.invariant.rest

@@ -1,14 +1,16 @@
 -- The loop of `access_walk::walk_on`.
-use Prim.Native.Nat.{◌-◌}
-use lib.ListN.{take}
+use mathlib.Core.Path.{◌≡◌}
+use Prim.Native.Nat.{◌+◌, ◌≤◌}
+use lib.ListN.{length, drop}
 use Rattle.btf_view.specs.Lent.{lent}
-use Rattle.rules.specs.Access.{begun}
-use Rattle.access_walk.specs.Replies.{walked_on}
-use Rattle.access_walk.proofs.Walking.{Stepping}
+use Rattle.rules.specs.Refusal.{bind}
+use Rattle.rules.specs.Access.{begun, local_steps, found}
+use Rattle.access_walk.specs.Replies.{walk_of}
 use Rattle.access_walk.proofs.walk_on.Given as goal
 
-abbrev pub invariant-loop-i : goal.invariant-loop-i
-invariant-loop-i l = Stepping (lent l.types).typ (take l.count l.numbers) (walked_on (lent l.types).typ (begun l.id l.index l.bits) (take l.count l.numbers)) l.walk l.i
-
-abbrev pub decreases-loop-i : goal.decreases-loop-i
-decreases-loop-i l = l.count - l.i
+abbrev pub invariant-loop-part : goal.invariant-loop-part
+invariant-loop-part l = record {
+  few : length l.walk.path.items ≤ l.part-index + 1;
+  rest : bind (local_steps (lent l.types).typ (walk_of l.walk) (drop l.part-index l.parts)) found
+      ≡ bind (local_steps (lent l.types).typ (begun l.id l.index l.bits) l.parts) found;
+}

@@ -7,6 +7,3 @@ use Rattle.match_scan.proofs.next_candidate.Given as goal
 
 abbrev pub invariant-loop-id : goal.invariant-loop-id
 invariant-loop-id l = first_from (lent l.target) l.kind l.name l.id (suc l.target.btf.last - l.id) ≡ first_from (lent l.target) l.kind l.name l.from (suc l.target.btf.last - l.from)
-
-abbrev pub decreases-loop-id : goal.decreases-loop-id
-decreases-loop-id l = suc l.target.btf.last - l.id

@@ -3,4 +3,4 @@ use Rattle.std.proofs.Common.{◌≤◌}
 use Rattle.run_replay.proofs.replay.Given as goal
 
 abbrev pub invariant-loop-i : goal.invariant-loop-i
-invariant-loop-i g l = l.equal ≤ l.i
+invariant-loop-i g l = l.equal ≤ l.i-counter

@@ -1,44 +1,25 @@
 -- `types_names::same_in` meets its contract.
-use mathlib.Core.Path.{refl}
-use native.Mathlib.Omega.{arith}
-use Rattle.types_names.proofs.Names.{inside, inside-in, name-ends, other-ends, name_differs, name_goes}
-use borrow.Author.Rules.{rules}
+use Rattle.types_names.proofs.Names.{inside-in, name-past, name-ends, other-ends, name_differs, name_goes}
 use Rattle.types_names.proofs.same_in.Goals as goal
-
-pub loop-from-init : goal.loop-from-init
-loop-from-init c = refl
+use Rattle.types_names.proofs.same_in.Goals.{then-over-via-then-over, then-over-via-else-over+then-byte-strings}
 
 pub returns-then-ends_at : goal.returns-then-ends_at
-returns-then-ends_at c =
-    name-ends c.args.name.now c.args.strings.now c.args.from c.loop-from.i c.loop-from.at c.loop-from.invariant c.ends_at.ensures c.ends_in-over.ensures
-    c.if-ends_at.true
+returns-then-ends_at c = name-ends _ _ _ c.loop-i.invariant c.ends_in-over.ensures c.ends_at.ensures c.if-ends_at.true
+
+pub bounds-strings-i : goal.bounds-strings-i
+bounds-strings-i c = inside-in _ _ c.ends_in-over.ensures c.if-over.false
 
 pub returns-then-over : goal.returns-then-over
 returns-then-over c =
-    other-ends c.args.name.now c.args.strings.now c.args.from c.loop-from.i c.loop-from.at c.loop-from.invariant c.ends_at.ensures c.ends_in-over.ensures
-    c.if-ends_at.false c.if-over.true
+    elim c.then-over.branch [
+      | then-over-via-then-over w ↦ other-ends _ _ _ c.loop-i.invariant c.ends_in-over.ensures c.ends_at.ensures c.if-ends_at.false w.if-over.true
+      | then-over-via-else-over+then-byte-strings w ↦ name_differs _ _ _ c.loop-i.invariant c.ends_in-over.ensures c.ends_at.ensures c.if-ends_at.false w.if-over.false
+          c.loop-i-test.true w.if-byte-strings.true
+    ]
 
-pub bounds-name-i : goal.bounds-name-i
-bounds-name-i c = inside _ _ c.ends_at.ensures c.if-ends_at.false
+pub loop-i-preserved : goal.loop-i-preserved
+loop-i-preserved c =
+    name_goes _ _ _ c.loop-i.invariant c.ends_in-over.ensures c.ends_at.ensures c.if-ends_at.false c.if-over.false c.loop-i-test.true c.if-byte-strings.false
 
-pub bounds-strings-at : goal.bounds-strings-at
-bounds-strings-at c = inside-in _ _ c.ends_in-over.ensures c.if-over.false
-
-pub returns-then-name-i : goal.returns-then-name-i
-returns-then-name-i c =
-    name_differs c.args.name.now c.args.strings.now c.args.from c.loop-from.i c.loop-from.at c.loop-from.invariant c.ends_at.ensures c.ends_in-over.ensures c.if-ends_at.false
-    c.if-over.false c.if-name-i.true
-
-pub overflow_add-i : goal.overflow_add-i
-overflow_add-i c = search (rules, inside c.args.name.now c.loop-from.i c.ends_at.ensures c.if-ends_at.false)
-
-pub overflow_add-at : goal.overflow_add-at
-overflow_add-at c = search (rules, inside-in c.args.strings.now c.loop-from.at c.ends_in-over.ensures c.if-over.false)
-
-pub loop-from-smaller : goal.loop-from-smaller
-loop-from-smaller c = omega (arith, inside c.args.name.now c.loop-from.i c.ends_at.ensures c.if-ends_at.false)
-
-pub loop-from-preserved : goal.loop-from-preserved
-loop-from-preserved c =
-    name_goes c.args.name.now c.args.strings.now c.args.from c.loop-from.i c.loop-from.at c.loop-from.invariant c.ends_at.ensures c.ends_in-over.ensures c.if-ends_at.false
-    c.if-over.false c.if-name-i.false
+pub returns : goal.returns
+returns c = name-past _ _ _ c.loop-i.invariant c.loop-i-test.false c.loop-i.auto.i-end c.ends_in.ensures

@@ -1,9 +1,7 @@
 -- The loop of `value_load::bitfield_load`.
+use Prim.Native.Nat.{◌-◌}
 use Rattle.value_load.proofs.Loads.{Widening}
 use Rattle.value_load.proofs.bitfield_load.Given as goal
 
-abbrev pub invariant-loop-left : goal.invariant-loop-left
-invariant-loop-left l = Widening l.bits l.width l.size l.s l.left
-
-abbrev pub decreases-loop-left : goal.decreases-loop-left
-decreases-loop-left l = l.left
+abbrev pub invariant-loop-turn : goal.invariant-loop-turn
+invariant-loop-turn l = Widening l.bits l.width l.size l.s (4 - l.turn)
