@@ -6,7 +6,7 @@
 
 ghost use Rattle.std.specs.Prelude.{◌≡◌, ℕ, List};
 ghost use Rattle.rules.specs.Apply as apply;
-ghost use Rattle.insn_fields.specs.Patched.{patch_of, Changes};
+ghost use Rattle.insn_fields.specs.Patched.{patch_of, no_successor, invalid, Changes};
 
 use rules::Refusal;
 use word_put::{put_i16, put_i32, put_u8, signed32};
@@ -58,6 +58,20 @@ const POISON_CODE: u8 = BPF_JMP + BPF_CALL;
 
 const POISON_IMM: i32 = 0x0bad2310;
 
+// Why an instruction is invalid (refusal 12).
+pub fn bad_instruction(reason: u32) -> Result<(), Refusal>
+    ensures { result ≡ invalid reason }
+{
+    Err(Refusal::BadInstruction(reason))
+}
+
+// A successor that is missing (refusal 6).
+pub fn no_successor(index: u32) -> Result<(), Refusal>
+    ensures { result ≡ no_successor index }
+{
+    Err(Refusal::NoSuccessor(index as u64 + 1))
+}
+
 #[tactic(auto, using(crate::proofs::Laws::sixteen))]
 pub fn has_successor(insns: &[u8]) -> bool
     ensures { result ≡ apply.has_slot insns.now 1 }
@@ -94,7 +108,7 @@ pub fn also_next<F: FnOnce(&mut [u8])>(
     ensures { patch_of result insns.new ≡ apply.also_next to insns.old index }
 {
     if !has_successor(insns) {
-        return Err(Refusal::NoSuccessor(index as u64 + 1));
+        return no_successor(index);
     }
     let (_, next) = insns.split_at_mut(INSN_SIZE);
     change(next);

@@ -6,7 +6,7 @@ ghost use Rattle.std.specs.Prelude.{◌≡◌, ◌≤◌, IfSome};
 ghost use Rattle.rules.specs.Apply as apply;
 ghost use Rattle.insn_fields.specs.Patched.{patch_of};
 
-use insn_fields::{BPF_B, BPF_DW, BPF_H, BPF_W, CODE, OFF};
+use insn_fields::{BPF_B, BPF_DW, BPF_H, BPF_W, CODE, OFF, bad_instruction};
 use rules::{Refusal, Resize};
 use word_put::{put_i16, put_u8};
 use word_read::u8_at;
@@ -53,7 +53,9 @@ fn size_bits(size: u32) -> Option<u8>
 fn put_size(insns: &mut [u8], size: u32) -> Result<(), Refusal>
     ensures { patch_of result insns.new ≡ apply.resized insns.old (apply.size_bits size) }
 {
-    let bits = size_bits(size).ok_or(Refusal::BadInstruction(SIZE_INVALID))?;
+    let Some(bits) = size_bits(size) else {
+        return bad_instruction(SIZE_INVALID);
+    };
     put_size_bits(insns, bits);
     Ok(())
 }
@@ -64,8 +66,8 @@ fn resize(insns: &mut [u8], change: Resize) -> Result<(), Refusal>
 {
     match change {
         Resize::Same => Ok(()),
-        Resize::OneSided => Err(Refusal::BadInstruction(TYPE_ONE_SIDED)),
-        Resize::Unlike => Err(Refusal::BadInstruction(TYPES_UNLIKE)),
+        Resize::OneSided => bad_instruction(TYPE_ONE_SIDED),
+        Resize::Unlike => bad_instruction(TYPES_UNLIKE),
         Resize::To(size) => put_size(insns, size),
     }
 }
@@ -77,7 +79,7 @@ pub fn patch_memory(insns: &mut [u8], value: u64, change: Resize) -> Result<(), 
 {
     let too_big = value > MAX_OFF;
     if too_big {
-        return Err(Refusal::BadInstruction(OFFSET_TOO_BIG));
+        return bad_instruction(OFFSET_TOO_BIG);
     }
     put_i16(insns, OFF, value as i16);
     resize(insns, change)

@@ -10,7 +10,7 @@ ghost use Rattle.insn_patch.specs.Start.{start_of};
 
 use insn_fields::{
     BPF_ALU, BPF_ALU64, BPF_LD, BPF_LDX, BPF_ST, BPF_STX, CODE, INSN_SIZE, REGISTERS, also_next,
-    poison, put_imm,
+    bad_instruction, poison, put_imm,
 };
 use insn_memory::patch_memory;
 use rules::{Refusal, Resize, Write};
@@ -43,7 +43,7 @@ fn patch_alu(insns: &mut [u8], value: u64) -> Result<(), Refusal>
     ensures { patch_of result insns.new ≡ apply.patch_alu insns.old value }
 {
     if u8_at(insns, REGISTERS) / 16 != 0 {
-        return Err(Refusal::BadInstruction(SOURCE_REGISTER));
+        return bad_instruction(SOURCE_REGISTER);
     }
     put_imm(insns, low(value));
     Ok(())
@@ -68,7 +68,7 @@ fn patch_value(insns: &mut [u8], index: u32, value: u64, change: Resize) -> Resu
         BPF_ALU | BPF_ALU64 => patch_alu(insns, value),
         BPF_LDX | BPF_ST | BPF_STX => patch_memory(insns, value, change),
         BPF_LD => patch_wide(insns, index, value),
-        _ => Err(Refusal::BadInstruction(CLASS_INVALID)),
+        _ => bad_instruction(CLASS_INVALID),
     }
 }
 

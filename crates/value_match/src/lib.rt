@@ -15,7 +15,7 @@ use rules::{
     TYPE_ID_TARGET, Value,
 };
 use types_chain::type_size;
-use value_member::{named_value, offset_value, plain_value};
+use value_member::{named_value, offset_value, plainly};
 use word_put::sign_extend;
 
 // A type's size as a value.
@@ -23,7 +23,7 @@ fn size_value(types: &Types, id: u32) -> Result<Value, Refusal>
     ensures { result ≡ sized (size_of (lent types.now).typ id) (λ n. Ok (plain n)) }
 {
     let size = type_size(types, id)?;
-    Ok(plain_value(size as u64))
+    plainly(size as u64)
 }
 
 // An element of a type: it has an offset and a size alone.
@@ -52,7 +52,7 @@ pub fn field_value(
     ensures { result ≡ field_value (lent types.now).typ kind accessor bits }
 {
     if kind == FIELD_EXISTS {
-        return Ok(plain_value(1));
+        return plainly(1);
     }
     if accessor.named {
         return named_value(types, kind, accessor.typ, accessor.index, bits);
@@ -66,8 +66,8 @@ pub fn type_value(types: &Types, kind: u32, id: u32) -> Result<Value, Refusal>
     ensures { result ≡ type_value (lent types.now).typ kind id }
 {
     match kind {
-        TYPE_ID_TARGET => Ok(plain_value(id as u64)),
-        TYPE_EXISTS => Ok(plain_value(1)),
+        TYPE_ID_TARGET => plainly(id as u64),
+        TYPE_EXISTS => plainly(1),
         _ => size_value(types, id),
     }
 }

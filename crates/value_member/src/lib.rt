@@ -2,7 +2,7 @@
 // offset get an answer.
 #![tactic(auto)]
 
-ghost use Rattle.std.specs.Prelude.{◌≡◌, ◌*◌, ◌≤◌};
+ghost use Rattle.std.specs.Prelude.{◌≡◌, ◌*◌, ◌≤◌, Ok};
 ghost use Rattle.btf_view.specs.Lent.{lent};
 ghost use Rattle.rules.specs.Fields.{bitfield_size, nth_entry};
 ghost use Rattle.rules.specs.Value.{plain, end_from, shift, load_value, member_value};
@@ -28,6 +28,12 @@ pub fn plain_value(number: u64) -> Value
     }
 }
 
+pub fn plainly(number: u64) -> Result<Value, Refusal>
+    ensures { result ≡ Ok (plain number) }
+{
+    Ok(plain_value(number))
+}
+
 // 64 less some bits, where there are no more than 64.
 fn shift_by(bits: u64) -> Result<Value, Refusal>
     ensures { result ≡ shift bits }
@@ -36,7 +42,7 @@ fn shift_by(bits: u64) -> Result<Value, Refusal>
     if too_wide {
         return Err(Refusal::Unresolved);
     }
-    Ok(plain_value(REGISTER - bits))
+    plainly(REGISTER - bits)
 }
 
 // 64 less a field's end, counted from where its load begins.
@@ -64,8 +70,8 @@ fn load_value(
 {
     match kind {
         FIELD_BYTE_OFFSET => Ok(offset),
-        FIELD_BYTE_SIZE => Ok(plain_value(load.size)),
-        FIELD_SIGNED => Ok(plain_value(signedness_of(types, id))),
+        FIELD_BYTE_SIZE => plainly(load.size),
+        FIELD_SIGNED => plainly(signedness_of(types, id)),
         FIELD_LSHIFT => left_shift(bits, load),
         _ => shift_by(load.width),
     }

@@ -5,7 +5,7 @@ use Rattle.insn_fields.proofs.also_next.Goals as goal
 
 pub returns-then-not-has_successor : goal.returns-then-not-has_successor
 returns-then-not-has_successor g c =
-    let a = c.args in missing g.to a.insns.now a.index (sym c.has_successor.ensures ∙ c.if-not-has_successor.true)
+    let a = c.args in rw c.no_successor.ensures (missing g.to a.insns.now a.index (sym c.has_successor.ensures ∙ c.if-not-has_successor.true))
 
 pub split_at_mut-next-requires : goal.split_at_mut-next-requires
 split_at_mut-next-requires g c = omega (arith, room c.args.insns.now (sym c.has_successor.ensures ∙ c.if-not-has_successor.false))
