@@ -6,10 +6,10 @@ use mathlib.Core.List.{List, [], ◌∷◌, ◌++◌}
 use Prim.Native.Nat.{ℕ, ◌+◌, ◌≤◌, ◌<◌, min}
 use native.Mathlib.Numerals.{add-one}
 use native.Mathlib.Omega.{arith}
-use borrow.Author.Tests.{le-leb, lt-leb, lt-ltb, le-ltb, ltb-true, ltb-false, eqb-true, eqb-false}
+use borrow.Author.Tests.{le-leb, lt-leb, lt-ltb, le-ltb, leb-true, leb-false, ltb-true, ltb-false}
 use lib.ListN.{length, get_or, take, drop, length-append, drop_of_length-le}
 use lib.Seq.{take_all, drop-cons}
-use lib.Dec.{eqb, ltb}
+use lib.Dec.{eqb, leb, ltb}
 use Rattle.std.specs.List.{slice_split, onto_first}
 use Rattle.std.specs.Prelude.{Err, None, Ok, Option, Some}
 use Rattle.std.proofs.lemmas.List.{take-append-le, length-take}
@@ -68,31 +68,33 @@ module _ {text kept : List ℕ} {too_many : Bool} {i : ℕ} (g : Going text kept
     unfolding parse
     bad e = rw (on e, lost g.met)
 
-    module _ (n : ℕ) (e : Some n ≡ part one) {full : Bool} (f : full ≡ eqb (length kept) 64) where
+    -- it is kept where there is room
+    module _ (n : ℕ) (e : Some n ≡ part one) where
       long : length kept ≡ min 64 i
       long = ap length g.first ∙ length-take 64 g.met ∙ ap (min 64) g.count
 
-      step : (next : List ℕ) → next ≡ take 64 (g.met ++ n ∷ []) → full ≡ ltb 64 (i + 1) → Going text next full (i + 1)
-      step next s p = record {
+      kept_more : take 64 (kept ++ n ∷ []) ≡ take 64 (g.met ++ n ∷ [])
+      kept_more = go (leb 64 i) refl
+        where
+          go : (b : Bool) → leb 64 i ≡ b → take 64 (kept ++ n ∷ []) ≡ take 64 (g.met ++ n ∷ [])
+          go false b = rw (g.first, take_all 64 g.met (omega (arith, g.count, leb-false 64 i b))) refl
+          go true b =
+              let many : 64 ≤ i = leb-true 64 i b in
+              take-append-le 64 kept (n ∷ []) (omega (arith, long)) ∙ take_all 64 kept (omega (arith, long)) ∙ g.first
+              ∙ sym (take-append-le 64 g.met (n ∷ []) (omega (arith, g.count)))
+
+      full : (b : Bool) → leb 64 (length kept) ≡ b → b ≡ ltb 64 (i + 1)
+      full true b = sym (lt-ltb 64 (i + 1) (omega (arith, long, leb-true 64 (length kept) b)))
+      full false b = sym (le-ltb 64 (i + 1) (omega (arith, long, leb-false 64 (length kept) b)))
+
+      pub more : (k : ℕ) → k ≡ length kept → Going text (take 64 (kept ++ n ∷ [])) (leb 64 k) (i + 1)
+      more k c = record {
         met = g.met ++ n ∷ [];
         count = omega (arith, g.count, length-append g.met (n ∷ []));
-        first = s;
-        past = p;
+        first = kept_more;
+        past = rw c (full (leb 64 (length kept)) refl);
         rest = on e ∙ sym (known g.met n (numbers (drop (i + 1) (split text))));
       }
-
-      pub more : full ≡ false → Going text (kept ++ n ∷ []) full (i + 1)
-      more h =
-          let room : length kept < 64 = omega (arith, long, eqb-false (length kept) 64 (sym f ∙ h)) in
-          let few : i < 64 = omega (arith, long) in
-          let all : take 64 g.met ≡ g.met = take_all 64 g.met (omega (arith, g.count)) in
-          let more : take 64 (g.met ++ n ∷ []) ≡ g.met ++ n ∷ [] = take_all 64 (g.met ++ n ∷ []) (omega (arith, g.count, length-append g.met (n ∷ []))) in
-          step _ (rw (g.first, all) (sym more)) (h ∙ sym (le-ltb 64 (i + 1) (omega arith)))
-
-      pub past : full ≡ true → Going text kept full (i + 1)
-      past h =
-          let many : 64 ≤ i = omega (arith, long, eqb-true (length kept) 64 (sym f ∙ h)) in
-          step kept (g.first ∙ sym (take-append-le 64 g.met (n ∷ []) (omega (arith, g.count)))) (h ∙ sym (lt-ltb 64 (i + 1) (omega arith)))
 
   -- no part more
   module _ (h : length (split text) ≤ i) where

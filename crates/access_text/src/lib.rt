@@ -1,12 +1,63 @@
 // An access string taken apart: decimal numbers between colons, each as Rust parses a `usize`.
 #![tactic(auto)]
 
-ghost use Rattle.std.specs.Prelude.{◌≡◌};
+ghost use Rattle.std.specs.Prelude.{◌≡◌, ◌≤◌, ◌++◌, ◌∷◌, [], length, take};
 ghost use Rattle.rules.specs.Access.{decimal, part, parse};
+ghost use Rattle.access_text.specs.Few.{listed};
 ghost use Rattle.access_text.specs.Text.{one_digit, parts_of};
 
-use arrayvec::ArrayVec;
 use rules::Refusal;
+
+const MAX_PARTS: usize = 64;
+
+// A list by value: the first `count` items of the table, where a count past 64 counts as 64. The parts of an access string
+// are one, and so is a path of accessors. It is plain, with no invariant, so that it is `Copy` and asks nothing of who
+// makes one.
+#[derive(Clone, Copy)]
+pub struct Few<T> {
+    pub count: usize,
+    pub items: [T; 64],
+}
+
+pub type Parts = Few<u64>;
+
+impl<T: Copy> Few<T> {
+    // None yet; each place of the table is blank.
+    pub fn new(blank: T) -> Few<T>
+        ensures { listed result ≡ [] }
+    {
+        Few {
+            count: 0,
+            items: [blank; 64],
+        }
+    }
+
+    // One more at the end; where 64 are there, it is not kept.
+    pub fn push(&mut self, item: T)
+        ensures { listed self.new ≡ take 64 (listed self.old ++ item ∷ []) }
+    {
+        if self.count < MAX_PARTS {
+            self.items[self.count] = item;
+            self.count += 1;
+        }
+    }
+
+    // The list, lent.
+    pub fn as_slice(&self) -> &[T]
+        ensures value { result.now ≡ listed self.now }
+        ensures fits { length result.now ≤ 64 }
+    {
+        &self.items[..count_in(self)]
+    }
+}
+
+// How many parts there are.
+pub fn count_in<T: Copy>(parts: &Few<T>) -> usize
+    ensures few { result ≤ 64 }
+    ensures long { result ≡ length (listed parts.now) }
+{
+    parts.count.min(MAX_PARTS)
+}
 
 // One digit more, where the number still fits in 64 bits.
 #[tactic(auto, unfolding(crate::specs::Text::one_digit))]
@@ -48,17 +99,16 @@ fn part_of(text: &[u8]) -> Option<u64>
 
 // The parts of an access string. All must be numbers, before it matters how many there are: a part past the 64th is
 // parsed too, and not kept.
-pub fn parse_access(text: &[u8]) -> Result<ArrayVec<u64, 64>, Refusal>
+pub fn parse_access(text: &[u8]) -> Result<Parts, Refusal>
     ensures { parts_of result ≡ parse text.now }
 {
-    let mut parts = ArrayVec::new();
+    let mut parts = Few::new(0);
     let mut too_many = false;
     for one in text.split(|x| *x == b':') {
         let number = part_of(one).ok_or(Refusal::BadAccess)?;
-        too_many = parts.is_full();
-        if !too_many {
-            parts.push(number);
-        }
+        let count = count_in(&parts);
+        too_many = count >= MAX_PARTS;
+        parts.push(number);
     }
     if too_many {
         return Err(Refusal::TooManyParts);

@@ -3,45 +3,47 @@
 //     "0:1:1:0:2" on a is ((struct a *)p)[0].s.z[2]: the accessors are [0], .s, .z, [2]; the unnamed struct's 1 adds its bits alone.
 #![tactic(auto)]
 
-ghost use Rattle.std.specs.Prelude.{◌≡◌, ◌+◌, ◌<◌, ◌≤◌, length};
+ghost use Rattle.std.specs.Prelude.{◌≡◌, ◌<◌, ◌≤◌, length, Err};
 ghost use Rattle.btf_view.specs.Lent.{lent};
 ghost use Rattle.rules.specs.Refusal.{bind};
 ghost use Rattle.rules.specs.Access.{last, begun, walked, local_steps, found, field_access, type_access, variant_at, enum_access, local_access};
+ghost use Rattle.access_text.specs.Few.{listed};
 ghost use Rattle.access_text.specs.Text.{parts_of};
 ghost use Rattle.access_walk.specs.Replies.{walk_of, access_of};
 
 use access_step::{next_step, placed_first};
-use arrayvec::ArrayVec;
+use access_text::{Few, Parts};
 use btf_view::Types;
 use rules::{Accessor, FIELD_RSHIFT, Refusal, Step, TYPE_SIZE};
 use types_chain::is_enum;
 
 // Where a walk has come to: a type, by a path of accessors, at a bit offset.
-#[derive(Drop)]
+#[derive(Clone, Copy)]
 pub struct Walk {
     pub typ: u32,
-    pub path: ArrayVec<Accessor, 64>,
+    pub path: Few<Accessor>,
     pub bits: u64,
 }
 
 // What was accessed: a type as a whole; a variant, by its enum and index; a path, and its bit offset.
-#[derive(Drop)]
+#[derive(Clone, Copy)]
 pub enum Access {
     Whole,
     Variant(u32, u32),
-    Path(ArrayVec<Accessor, 64>, u64),
+    Path(Few<Accessor>, u64),
 }
 
 // The walk that begins with an index of a type.
 fn begin(id: u32, index: u64, bits: u64) -> Walk
     ensures { walk_of result ≡ begun id index bits }
 {
-    let mut path = ArrayVec::new();
-    path.push(Accessor {
+    let first = Accessor {
         typ: id,
         index,
         named: false,
-    });
+    };
+    let mut path = Few::new(first);
+    path.push(first);
     Walk {
         typ: id,
         path,
@@ -51,7 +53,7 @@ fn begin(id: u32, index: u64, bits: u64) -> Walk
 
 // The walk a step further: by an accessor, where the step has one.
 fn further(walk: &mut Walk, step: Step)
-    requires { length walk.old.path.items < 64 }
+    requires { length (listed walk.old.path) < 64 }
     ensures { walk_of walk.new ≡ walked (walk_of walk.old) step }
 {
     walk.typ = step.typ;
@@ -59,6 +61,13 @@ fn further(walk: &mut Walk, step: Step)
     if let Some(accessor) = step.by {
         walk.path.push(accessor);
     }
+}
+
+// An access that is refused.
+pub fn refuse(refusal: Refusal) -> Result<Access, Refusal>
+    ensures { access_of result ≡ Err refusal }
+{
+    Err(refusal)
 }
 
 // The last accessor of a path; one of zeros where there is none.
@@ -89,7 +98,7 @@ fn field_access(types: &Types, id: u32, parts: &[u64]) -> Result<Access, Refusal
     ensures { access_of result ≡ field_access (lent types.now).typ id parts.now }
 {
     let [index, rest @ ..] = parts else {
-        return Err(Refusal::BadAccess);
+        return refuse(Refusal::BadAccess);
     };
     let bits = placed_first(types, id, *index)?;
     walk_on(types, id, *index, bits, rest)
@@ -102,7 +111,7 @@ fn type_access(parts: &[u64]) -> Result<Access, Refusal>
 {
     match parts {
         [0] => Ok(Access::Whole),
-        _ => Err(Refusal::BadAccess),
+        _ => refuse(Refusal::BadAccess),
     }
 }
 
@@ -112,11 +121,11 @@ fn variant_access(types: &Types, id: u32, parts: &[u64]) -> Result<Access, Refus
     ensures { access_of result ≡ variant_at id (length ((lent types.now).typ id).entries) parts.now }
 {
     let &[index] = parts else {
-        return Err(Refusal::BadAccess);
+        return refuse(Refusal::BadAccess);
     };
     let count = types.count_of(id);
     if index >= count as u64 {
-        return Err(Refusal::IndexTooBig(index, count));
+        return refuse(Refusal::IndexTooBig(index, count));
     }
     Ok(Access::Variant(id, index as u32))
 }
@@ -129,7 +138,7 @@ fn enum_access(types: &Types, id: u32, parts: &[u64]) -> Result<Access, Refusal>
     if is_enum(types.kind_of(id)) {
         return variant_access(types, id, parts);
     }
-    Err(Refusal::WrongKind)
+    refuse(Refusal::WrongKind)
 }
 
 // What a record of a kind accesses, at a type that is no modifier, by the parts of its access string. Parts that were
@@ -139,7 +148,7 @@ pub fn local_access(
     types: &Types,
     kind: u32,
     id: u32,
-    parts: Result<ArrayVec<u64, 64>, Refusal>,
+    parts: Result<Parts, Refusal>,
 ) -> Result<Access, Refusal>
     ensures { access_of result ≡ bind (parts_of parts) (local_access (lent types.now) kind id) }
 {

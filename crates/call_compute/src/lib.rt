@@ -9,7 +9,7 @@ ghost use Rattle.rules.specs.Call.{record_at};
 ghost use Rattle.access_walk.specs.Replies.{access_in, access_of};
 
 use access_text::parse_access;
-use access_walk::{Access, last_step, local_access};
+use access_walk::{Access, last_step, local_access, refuse};
 use btf_view::Types;
 use call_conclude::{conclude_from, write_computed};
 use match_fold::match_candidates;
@@ -48,10 +48,10 @@ fn record_access(types: &Types, relo: Record) -> Result<Access, Refusal>
     ensures { access_of result ≡ accessed (lent types.now) relo }
 {
     if types.btf.last < relo.typ {
-        return Err(Refusal::Unresolved);
+        return refuse(Refusal::Unresolved);
     }
     if types.room() <= relo.access as usize {
-        return Err(Refusal::Unresolved);
+        return refuse(Refusal::Unresolved);
     }
     let parts = parse_access(types.text_of(relo.access))?;
     let id = resolve_type(types, relo.typ)?;

@@ -10,7 +10,7 @@ use Rattle.std.proofs.lemmas.Iterator.Splits.{YieldsList-from_slice_split}
 use Rattle.std.proofs.lemmas.Grind.{common_steps}
 use Rattle.std.proofs.lemmas.List.{length_push}
 use Rattle.rules.specs.Access.{split}
-use Rattle.access_text.proofs.Parts.{colon, split_same, begin, bad, more, past, good, many}
+use Rattle.access_text.proofs.Parts.{colon, split_same, begin, bad, more, good, many}
 use Rattle.access_text.proofs.parse_access.Goals as goal
 use Rattle.access_text.proofs.parse_access.Goals.{In-Some, In-None}
 
@@ -43,16 +43,10 @@ returns-in_err-number c =
     let b = bad c.loop-one.invariant (one (goal.at.returns-in_err-number c).In-Some) (grind (arith, common_steps)) in
     grind (arith, common_steps)
 
-pub loop-one-preserved-then-not-too_many : goal.loop-one-preserved-then-not-too_many
-loop-one-preserved-then-not-too_many c =
-    let t = one (goal.at.loop-one-preserved-then-not-too_many c).In-Some in
-    rw (length_push, c.push.ensures.items)
-    (more c.loop-one.invariant t c.in_ok-number.number (grind (arith, common_steps)) c.is_full-too_many.ensures.value c.if-not-too_many.true)
-
 pub loop-one-preserved : goal.loop-one-preserved
 loop-one-preserved c =
     let t = one (goal.at.loop-one-preserved c).In-Some in
-    rw length_push (past c.loop-one.invariant t c.in_ok-number.number (grind (arith, common_steps)) c.is_full-too_many.ensures.value c.if-not-too_many.false)
+    rw (length_push, c.push.ensures) (more c.loop-one.invariant t c.in_ok-number.number (grind (arith, common_steps)) _ c.count_in-count.ensures.long)
 
 pub returns-then-too_many : goal.returns-then-too_many
 returns-then-too_many c = many c.loop-one.invariant (none (goal.at.returns-then-too_many c).In-None) (search rules)
