@@ -37,13 +37,12 @@ pub enum Access {
 fn begin(id: u32, index: u64, bits: u64) -> Walk
     ensures { walk_of result ≡ begun id index bits }
 {
-    let first = Accessor {
+    let mut path = Few::new(Accessor::default());
+    path.push(Accessor {
         typ: id,
         index,
         named: false,
-    };
-    let mut path = Few::new(first);
-    path.push(first);
+    });
     Walk {
         typ: id,
         path,

@@ -74,12 +74,16 @@ fn own_value(types: &Types, kind: u32, access: &Access) -> Result<Value, Refusal
 pub fn record_write(local: &Types, target: &Types, relo: Record) -> Result<Write, Refusal>
     ensures { result ≡ relocated (lent local.now) (lent target.now) relo }
 {
-    let access = record_access(local, relo)?;
+    let access = record_access(local, relo);
+    let accessed = match &access {
+        Ok(accessed) => accessed,
+        Err(refusal) => return Err(*refusal),
+    };
     if relo.kind == TYPE_ID_LOCAL {
         return Ok(Write::Put(relo.typ as u64, Resize::Same));
     }
-    let mine = own_value(local, relo.kind, &access);
-    let kept = match_candidates(local, target, relo, &Ok(access), mine);
+    let mine = own_value(local, relo.kind, accessed);
+    let kept = match_candidates(local, target, relo, &access, mine);
     let theirs = conclude_from(relo.kind, kept);
     write_computed(local, target, mine, theirs)
 }
