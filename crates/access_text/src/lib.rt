@@ -11,14 +11,14 @@ use rules::Refusal;
 const MAX_PARTS: usize = 64;
 
 // A list by value: the first `count` items of the table, where a count past 64 counts as 64. The parts of an access string
-// are one, and so is a path of accessors. It is plain, with no invariant, so that it is `Copy` and asks nothing of who
-// makes one.
+// are one, and so is a path of accessors. It is `Copy` and has no invariant, so that who makes one owes nothing.
 #[derive(Clone, Copy)]
 pub struct Few<T> {
     pub count: usize,
     pub items: [T; 64],
 }
 
+// The parts of an access string.
 pub type Parts = Few<u64>;
 
 impl<T: Copy> Few<T> {
@@ -51,7 +51,7 @@ impl<T: Copy> Few<T> {
     }
 }
 
-// How many parts there are.
+// How many parts there are, or accessors of a path.
 pub fn count_in<T: Copy>(parts: &Few<T>) -> usize
     ensures few { result ≤ 64 }
     ensures long { result ≡ length (listed parts.now) }
