@@ -14,11 +14,12 @@ use btf_fields::{count_at, entry_at, extra_at, flag_at, kind_at, name_at, ref_at
 use btf_kinds::{Entry, tail_of};
 use word_read::part;
 
-// The types of a BTF as they are lent: its bytes, the table that a read has left, and where its sections lie.
+// The types of a BTF as they are lent: its bytes, the table that a read has left, and where its sections lie. A name is a part of
+// the bytes and may be kept for as long as they are lent, the table's end or not.
 #[derive(Clone, Copy)]
-pub struct Types<'a> {
+pub struct Types<'a, 't> {
     pub bytes: &'a [u8],
-    pub table: &'a [u32],
+    pub table: &'t [u32],
     pub btf: Btf,
 }
 
@@ -39,7 +40,7 @@ fn text_in(strings: &[u8], from: usize) -> &[u8]
     &strings[from..e]
 }
 
-impl<'a> Types<'a> {
+impl<'a, 't> Types<'a, 't> {
     // Where the type with an id begins; the end of the bytes where there is none.
     fn place_of(&self, id: u32) -> usize
         ensures { (result ≡ table_place self.now.bytes.now self.now.table.now self.now.btf.last id) × (result < 9223372036854775808) }

@@ -36,7 +36,7 @@ pub extern "C" fn leamugi_read(btf: &[u8], table: &mut [u32], said: &mut [u64]) 
 }
 
 // The types of a BTF that was read before, as the numbers of that reading say where they lie.
-fn read_before<'a>(btf: &'a [u8], table: &'a [u32], read: &[u64]) -> Types<'a>
+fn read_before<'a, 't>(btf: &'a [u8], table: &'t [u32], read: &[u64]) -> Types<'a, 't>
     ensures { lent result ≡ tab_view btf.now table.now (btf_of read.now) }
 {
     Types {

@@ -35,7 +35,7 @@ pub fn next_candidate(target: &Types, kind: u32, name: &[u8], from: u64) -> Opti
 }
 
 // The name of the type with an id.
-pub fn type_name<'a>(types: &Types<'a>, id: u32) -> &'a [u8]
+pub fn type_name<'a>(types: &Types<'a, '_>, id: u32) -> &'a [u8]
     ensures { result.now ≡ (lent types.now).text ((lent types.now).typ id).name }
 {
     types.text_of(types.name_of(id))

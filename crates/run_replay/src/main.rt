@@ -43,7 +43,7 @@ struct Case<'a> {
 }
 
 // The types of a BTF that is accepted, by the table that the call has filled.
-fn types_of<'a>(bytes: &'a [u8], table: &'a [u32]) -> Option<Types<'a>> {
+fn types_of<'a, 't>(bytes: &'a [u8], table: &'t [u32]) -> Option<Types<'a, 't>> {
     let Whole::Accepted(btf) = accept(bytes) else {
         return None;
     };
