@@ -71,6 +71,8 @@ pub fn size_at(bytes: &[u8], at: usize) -> u32
     }
 }
 
+// Inlined, so that who asks for a type's size too looks at its kind once (`type_numbers` of `leamugi_numbers`).
+#[inline(always)]
 pub fn ref_at(bytes: &[u8], at: usize) -> u32
     ensures { result ≡ (type_at bytes.now at).ref }
 {

@@ -42,7 +42,7 @@ fn text_in(strings: &[u8], from: usize) -> &[u8]
 
 impl<'a, 't> Types<'a, 't> {
     // Where the type with an id begins; the end of the bytes where there is none.
-    fn place_of(&self, id: u32) -> usize
+    pub fn place_of(&self, id: u32) -> usize
         ensures { (result ≡ table_place self.now.bytes.now self.now.table.now self.now.btf.last id) × (result < 9223372036854775808) }
     {
         let Types { bytes, table, btf } = *self;
