@@ -97,7 +97,7 @@ fn field_access(types: &Types, id: u32, parts: &[u64]) -> Result<Access, Refusal
     ensures { access_of result ≡ field_access (lent types.now).typ id parts.now }
 {
     let [index, rest @ ..] = parts else {
-        return refuse(Refusal::BadAccess);
+        return Err(Refusal::BadAccess);
     };
     let bits = placed_first(types, id, *index)?;
     walk_on(types, id, *index, bits, rest)
@@ -110,7 +110,7 @@ fn type_access(parts: &[u64]) -> Result<Access, Refusal>
 {
     match parts {
         [0] => Ok(Access::Whole),
-        _ => refuse(Refusal::BadAccess),
+        _ => Err(Refusal::BadAccess),
     }
 }
 
@@ -120,11 +120,11 @@ fn variant_access(types: &Types, id: u32, parts: &[u64]) -> Result<Access, Refus
     ensures { access_of result ≡ variant_at id (length ((lent types.now).typ id).entries) parts.now }
 {
     let &[index] = parts else {
-        return refuse(Refusal::BadAccess);
+        return Err(Refusal::BadAccess);
     };
     let count = types.count_of(id);
     if index >= count as u64 {
-        return refuse(Refusal::IndexTooBig(index, count));
+        return Err(Refusal::IndexTooBig(index, count));
     }
     Ok(Access::Variant(id, index as u32))
 }
@@ -137,7 +137,7 @@ fn enum_access(types: &Types, id: u32, parts: &[u64]) -> Result<Access, Refusal>
     if is_enum(types.kind_of(id)) {
         return variant_access(types, id, parts);
     }
-    refuse(Refusal::WrongKind)
+    Err(Refusal::WrongKind)
 }
 
 // What a record of a kind accesses, at a type that is no modifier, by the parts of its access string. Parts that were
@@ -151,8 +151,10 @@ pub fn local_access(
 ) -> Result<Access, Refusal>
     ensures { access_of result ≡ bind (parts_of parts) (local_access (lent types.now) kind id) }
 {
-    let parts = parts?;
-    let parts = parts.as_slice();
+    let parts = match &parts {
+        Ok(parts) => parts.as_slice(),
+        Err(why) => return refuse(*why),
+    };
     if kind <= FIELD_RSHIFT {
         return field_access(types, id, parts);
     }

@@ -9,7 +9,7 @@ ghost use Rattle.rules.specs.Call.{record_at};
 ghost use Rattle.access_walk.specs.Replies.{access_in, access_of};
 
 use access_text::parse_access;
-use access_walk::{Access, last_step, local_access, refuse};
+use access_walk::{Access, last_step, local_access};
 use btf_view::Types;
 use call_conclude::{conclude_from, write_computed};
 use match_fold::match_candidates;
@@ -42,20 +42,24 @@ pub fn record_at(records: &[u8], k: usize) -> Record
 }
 
 // What a record accesses, from its type id on. The parts come first, then the chain: where parts are refused, an endless
-// chain is not looked at.
+// chain is not looked at. Not inlined: it writes the 64 places where they are kept, and inlined they were copied once more.
 #[tactic(auto, unfolding(rules::specs::Record::accessed))]
+#[inline(never)]
 fn record_access(types: &Types, relo: Record) -> Result<Access, Refusal>
     ensures { access_of result ≡ accessed (lent types.now) relo }
 {
     if types.btf.last < relo.typ {
-        return refuse(Refusal::Unresolved);
+        return Err(Refusal::Unresolved);
     }
     if types.room() <= relo.access as usize {
-        return refuse(Refusal::Unresolved);
+        return Err(Refusal::Unresolved);
     }
-    let parts = parse_access(types.text_of(relo.access))?;
+    let parts = parse_access(types.text_of(relo.access));
+    if let Err(refusal) = &parts {
+        return Err(*refusal);
+    }
     let id = resolve_type(types, relo.typ)?;
-    local_access(types, relo.kind, id, Ok(parts))
+    local_access(types, relo.kind, id, parts)
 }
 
 // The record's own, local, value.
