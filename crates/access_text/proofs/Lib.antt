@@ -1,3 +1,3 @@
 pub mod Digits
-pub mod Listed
+pub mod Items
 pub mod Parts

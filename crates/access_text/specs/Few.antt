@@ -3,5 +3,5 @@ use Rattle.std.specs.Prelude.{List, take}
 use Rattle.access_text.specs.declared.Few.{Few}
 
 -- The first `count` items of the table
-abbrev pub listed : {A : Type 0} → Few A → List A
-listed f = take f.count f.items
+abbrev pub items_of : {A : Type 0} → Few A → List A
+items_of f = take f.count f.items

@@ -5,7 +5,7 @@ use Rattle.rules.specs.declared.Refusal.{Refusal}
 use Rattle.rules.specs.Refusal.{Reply}
 use Rattle.rules.specs.Access.{is_digit}
 use Rattle.access_text.specs.declared.Few.{Few}
-use Rattle.access_text.specs.Few.{listed}
+use Rattle.access_text.specs.Few.{items_of}
 
 -- One digit after a number; none where it is no digit, or where the number passes 64 bits
 unfoldable pub one_digit : ℕ → ℕ → Option ℕ
@@ -13,5 +13,5 @@ one_digit n x = cond (is_digit x && ltb (10 * n + (x - 48)) number_limit) (Some 
 
 -- The parts that were found, as a list
 abbrev pub parts_of : Result (Few ℕ) Refusal → Reply (List ℕ)
-parts_of (Ok parts) = Ok (listed parts)
+parts_of (Ok parts) = Ok (items_of parts)
 parts_of (Err r) = Err r

@@ -3,7 +3,7 @@
 
 ghost use Rattle.std.specs.Prelude.{◌≡◌, ◌≤◌, ◌++◌, ◌∷◌, [], length, take};
 ghost use Rattle.rules.specs.Access.{decimal, part, parse};
-ghost use Rattle.access_text.specs.Few.{listed};
+ghost use Rattle.access_text.specs.Few.{items_of};
 ghost use Rattle.access_text.specs.Text.{one_digit, parts_of};
 
 use rules::Refusal;
@@ -24,7 +24,7 @@ pub type Parts = Few<u64>;
 impl<T: Copy> Few<T> {
     // None yet; each place of the table is blank.
     pub fn new(blank: T) -> Few<T>
-        ensures { listed result ≡ [] }
+        ensures { items_of result ≡ [] }
     {
         Few {
             count: 0,
@@ -34,7 +34,7 @@ impl<T: Copy> Few<T> {
 
     // One more at the end; where 64 are there, it is not kept.
     pub fn push(&mut self, item: T)
-        ensures { listed self.new ≡ take 64 (listed self.old ++ item ∷ []) }
+        ensures { items_of self.new ≡ take 64 (items_of self.old ++ item ∷ []) }
     {
         if self.count < MAX_PARTS {
             self.items[self.count] = item;
@@ -44,7 +44,7 @@ impl<T: Copy> Few<T> {
 
     // The list, lent.
     pub fn as_slice(&self) -> &[T]
-        ensures value { result.now ≡ listed self.now }
+        ensures value { result.now ≡ items_of self.now }
         ensures fits { length result.now ≤ 64 }
     {
         &self.items[..count_in(self)]
@@ -54,7 +54,7 @@ impl<T: Copy> Few<T> {
 // How many parts there are, or accessors of a path.
 pub fn count_in<T: Copy>(parts: &Few<T>) -> usize
     ensures few { result ≤ 64 }
-    ensures long { result ≡ length (listed parts.now) }
+    ensures long { result ≡ length (items_of parts.now) }
 {
     parts.count.min(MAX_PARTS)
 }

@@ -7,7 +7,7 @@ ghost use Rattle.std.specs.Prelude.{◌≡◌, ◌<◌, ◌≤◌, length, Err};
 ghost use Rattle.btf_view.specs.Lent.{lent};
 ghost use Rattle.rules.specs.Refusal.{bind};
 ghost use Rattle.rules.specs.Access.{last, begun, walked, local_steps, found, field_access, type_access, variant_at, enum_access, local_access};
-ghost use Rattle.access_text.specs.Few.{listed};
+ghost use Rattle.access_text.specs.Few.{items_of};
 ghost use Rattle.access_text.specs.Text.{parts_of};
 ghost use Rattle.access_walk.specs.Replies.{walk_of, access_of};
 
@@ -52,7 +52,7 @@ fn begin(id: u32, index: u64, bits: u64) -> Walk
 
 // The walk a step further: by an accessor, where the step has one.
 fn further(walk: &mut Walk, step: Step)
-    requires { length (listed walk.old.path) < 64 }
+    requires { length (items_of walk.old.path) < 64 }
     ensures { walk_of walk.new ≡ walked (walk_of walk.old) step }
 {
     walk.typ = step.typ;

@@ -1,6 +1,6 @@
 -- `access_text::Few::push` meets its contract.
 use borrow.Author.Rules.{rules}
-use Rattle.access_text.proofs.Listed.{one_more, no_more}
+use Rattle.access_text.proofs.Items.{one_more, no_more}
 use Rattle.access_text.proofs.Few.push.Goals as goal
 
 pub returns-then-self-lt-MAX_PARTS : goal.returns-then-self-lt-MAX_PARTS
